@@ -40,14 +40,14 @@ counted-on dials PairBeyondLimits = PairBeyondLimits
 counted-on dials WrongCount = WrongCount
 counted-on dials (NumberTooLarge dial) = NumberTooLarge (dials + dial)
 
--- What a fault says was asked.
+-- What is wrong, in words.
 abbrev pub reason : RegisterFault → List ℕ
-reason Digits = codes "a dial has 1 to 8 digits"
-reason Weight = codes "a dial weighs 1 to 1,000,000 Wh"
-reason PairBeyondLimits = codes "a pair has at most 64 dials and 10^15 Wh"
-reason WrongCount = codes "there is one number for each dial"
-reason (NumberTooLarge dial) = codes "a number fits its dial"
+reason Digits = codes "digits not 1 to 8"
+reason Weight = codes "weight not 1 to 1,000,000 Wh"
+reason PairBeyondLimits = codes "pair beyond 64 dials or 10^15 Wh"
+reason WrongCount = codes "not one number for each dial"
+reason (NumberTooLarge dial) = codes "number too large for its dial"
 
--- The text of a fault: what was asked, and then number, layer and place.
+-- The text of a fault: what is wrong, and then number, layer and place.
 abbrev pub fault-text : RegisterFault → List ℕ
 fault-text fault = reason fault ++ (codes " (" ++ (listing-text (listed fault) ++ codes ")"))

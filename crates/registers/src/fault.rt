@@ -34,16 +34,16 @@ impl RegisterFault {
         }
     }
 
-    // What was asked of the caller.
+    // What is wrong, in words.
     pub fn reason(self) -> &'static str
         ensures { λ r. ⌜ now r ≡ reason self ⌝ }
     {
         match self {
-            RegisterFault::Digits => "a dial has 1 to 8 digits",
-            RegisterFault::Weight => "a dial weighs 1 to 1,000,000 Wh",
-            RegisterFault::PairBeyondLimits => "a pair has at most 64 dials and 10^15 Wh",
-            RegisterFault::WrongCount => "there is one number for each dial",
-            RegisterFault::NumberTooLarge { .. } => "a number fits its dial",
+            RegisterFault::Digits => "digits not 1 to 8",
+            RegisterFault::Weight => "weight not 1 to 1,000,000 Wh",
+            RegisterFault::PairBeyondLimits => "pair beyond 64 dials or 10^15 Wh",
+            RegisterFault::WrongCount => "not one number for each dial",
+            RegisterFault::NumberTooLarge { .. } => "number too large for its dial",
         }
     }
 }
