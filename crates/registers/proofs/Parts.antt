@@ -34,29 +34,33 @@ module _ {K L : Type 0} where
   told-second d wrong-length u k e p q = absurd (never (cc))
   told-second d (too-large i) u k e p q = absurd (never (cc))
 
--- `d` is the number of dials that the code has of the first register; the lists are `&xs[0..d]` and `&xs[d..]`, and
--- r and s what the registers answered to them.
-module _ {K L : Type 0} (m : Meaning K) (n : Meaning L) (xs : List ℕ) (d dials : ℕ) (fits : may-pair m n ≡ true) (l : length xs ≡ dials) (dials-are : dials ≡ pair-meaning m n .dials) (d-is : d ≡ m .dials)
-    (r : Result K RegisterFault) (s : Result L RegisterFault) (r-is : r ≡ told (m .taken (take (d - 0) xs))) (s-is : s ≡ told (n .taken (take (length xs - d) (drop d xs)))) where
-  both-dials : length xs ≡ m .dials + n .dials
-  both-dials = l ∙ dials-are ∙ ap (λ p. p .dials) (cond-true (may-pair m n) (side-by-side m n) beyond-limits fits)
+-- d is the number of dials that the code has of the first register; it hands the two registers the parts `&xs[0..d]`
+-- and `&xs[d..]` of the list, and they answer r and s.
+module _ {K L : Type 0} (m : Meaning K) (n : Meaning L) (xs : List ℕ) (d dials : ℕ)
+    (fits : may-pair m n ≡ true) (l : length xs ≡ dials) (dials-are : dials ≡ pair-meaning m n .dials) (d-is : d ≡ m .dials)
+    (r : Result K RegisterFault) (s : Result L RegisterFault)
+    (r-is : r ≡ told (m .taken (take (d - 0) xs))) (s-is : s ≡ told (n .taken (take (length xs - d) (drop d xs)))) where
+  pair-is : pair-meaning m n ≡ side-by-side m n
+  pair-is = cond-true (may-pair m n) (side-by-side m n) beyond-limits fits
 
-  front : take (d - 0) xs ≡ take (m .dials) xs
-  front = let q : d - 0 ≡ m .dials = omega arith in ap (λ i. take i xs) q
+  all-dials : length xs ≡ m .dials + n .dials
+  all-dials = l ∙ dials-are ∙ ap (λ p. p .dials) pair-is
 
-  back : take (length xs - d) (drop d xs) ≡ drop (m .dials) xs
-  back = between-to-end xs d (length xs) (omega arith) ∙ ap (λ i. drop i xs) d-is
+  front-is : take (d - 0) xs ≡ take (m .dials) xs
+  front-is = let q : d - 0 ≡ m .dials = omega arith in ap (λ i. take i xs) q
 
-  by-parts : pair-meaning m n .taken xs ≡ both-taken (m .dials) (m .taken (take (d - 0) xs)) (n .taken (take (length xs - d) (drop d xs)))
+  back-is : take (length xs - d) (drop d xs) ≡ drop (m .dials) xs
+  back-is = between-to-end xs d (length xs) (omega arith) ∙ ap (λ i. drop i xs) d-is
+
+  by-parts : pair-meaning m n .taken xs ≡ both-taken d (m .taken (take (d - 0) xs)) (n .taken (take (length xs - d) (drop d xs)))
   by-parts =
-      ap (λ p. p .taken xs) (cond-true (may-pair m n) (side-by-side m n) beyond-limits fits)
-      ∙ rw (front, back) (cond-true _ _ _ (eq-eqb (length xs) (m .dials + n .dials) both-dials))
+      ap (λ p. p .taken xs) pair-is
+      ∙ cond-true (eqb (length xs) (m .dials + n .dials)) _ _ (eq-eqb (length xs) (m .dials + n .dials) all-dials)
+      ∙ rw (front-is, back-is, d-is)
 
   pub taken-both : (k : K) (l : L) → r ≡ Ok k → s ≡ Ok l → Ok (k, l) ≡ told (pair-meaning m n .taken xs)
-  taken-both k l rk sl =
-      sym (ap told by-parts ∙ told-both (m .dials) (m .taken (take (d - 0) xs)) (n .taken (take (length xs - d) (drop d xs))) k l (sym r-is ∙ rk) (sym s-is ∙ sl))
+  taken-both k l rk sl = sym (ap told by-parts ∙ told-both d (m .taken (take (d - 0) xs)) (n .taken (take (length xs - d) (drop d xs))) k l (sym r-is ∙ rk) (sym s-is ∙ sl))
 
   pub taken-second : (k : K) (e c : RegisterFault) → c ≡ counted-on d e → r ≡ Ok k → s ≡ Err e → Err c ≡ told (pair-meaning m n .taken xs)
   taken-second k e c c-is rk se =
-      ap Err (c-is ∙ ap (λ i. counted-on i e) d-is)
-      ∙ sym (ap told by-parts ∙ told-second (m .dials) (m .taken (take (d - 0) xs)) (n .taken (take (length xs - d) (drop d xs))) k e (sym r-is ∙ rk) (sym s-is ∙ se))
+      ap Err c-is ∙ sym (ap told by-parts ∙ told-second d (m .taken (take (d - 0) xs)) (n .taken (take (length xs - d) (drop d xs))) k e (sym r-is ∙ rk) (sym s-is ∙ se))

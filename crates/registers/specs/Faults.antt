@@ -45,7 +45,7 @@ abbrev pub reason : RegisterFault → List ℕ
 reason Digits = codes "digits not 1 to 8"
 reason Weight = codes "weight not 1 to 1,000,000 Wh"
 reason PairBeyondLimits = codes "pair beyond 64 dials or 10^15 Wh"
-reason WrongCount = codes "not one number for each dial"
+reason WrongCount = codes "wrong count of numbers"
 reason (NumberTooLarge dial) = codes "number too large for its dial"
 
 -- The text of a fault: what is wrong, and then number, layer and place.

@@ -25,10 +25,11 @@ pub fn full_scale<R: Register>(register: &R) -> u64
     register.full_scale()
 }
 
-// The advance: at most 10^15 Wh.
+// The advance: at most the full scale, and so at most 10^15 Wh.
 pub fn advance<R: Register>(register: &R, from: R::Reading, to: R::Reading) -> u64
     ensures value { λ r. ⌜ r ≡ R·Register .meaning (now (register .entry)) .advance from to ⌝ }
-    ensures most { λ r. ⌜ r ≤ 10 ^ 15 ⌝ }
+    ensures most { λ r. ⌜ r ≤ R·Register .meaning (now (register .entry)) .full-scale ⌝ }
+    ensures scale { λ _. ⌜ R·Register .meaning (now (register .entry)) .full-scale ≤ 10 ^ 15 ⌝ }
 {
     register.advance(from, to)
 }

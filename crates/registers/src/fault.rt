@@ -42,7 +42,7 @@ impl RegisterFault {
             RegisterFault::Digits => "digits not 1 to 8",
             RegisterFault::Weight => "weight not 1 to 1,000,000 Wh",
             RegisterFault::PairBeyondLimits => "pair beyond 64 dials or 10^15 Wh",
-            RegisterFault::WrongCount => "not one number for each dial",
+            RegisterFault::WrongCount => "wrong count of numbers",
             RegisterFault::NumberTooLarge { .. } => "number too large for its dial",
         }
     }
