@@ -11,6 +11,7 @@ use Rattle.std.specs.Options.{isSome}
 use Rattle.std.specs.declared.option.Option.{Option}
 use Rattle.std.specs.declared.option.Option.the-variants.{Some, None}
 use Rattle.std.proofs.shelf.Tests.{ltb-true, leb-true, lt-ltb, cond-both, cond-true, cond-false, and-parts, and-from}
+use Rattle.registers.specs.Apart.{never}
 use Rattle.registers.specs.Meaning.{Meaning, Laws, Exactly, reading}
 use Rattle.registers.specs.Dials.{within, steps, one-number}
 use Rattle.registers.specs.DialLaws.{one-number-length, one-number-dial, one-number-from, one-number-gives, steps-most, steps-triangle}
@@ -40,9 +41,6 @@ disc-meaning round marks = record {
   full-scale = round - 1;
   advance = disc-advance round marks;
 }
-
-never : _≡_ {A = ℕ} 0 1 → ⊥
-never z = omega arith
 
 -- Without a fault each mark is on the round.
 on-round : (round first : ℕ) (marks : List ℕ) → isSome (off-round round first marks) ≡ false → (code : ℕ) → code < length marks → getD marks code 0 < round

@@ -8,6 +8,7 @@ use native.Mathlib.Omega.{arith}
 use lib.Dec.{eqb}
 use lib.ListN.{length, replicate, length-replicate}
 use Rattle.std.proofs.shelf.Tests.{eq-eqb, eqb-true, ne-eqb, cases-eq, cond-both, cond-true, cond-false}
+use Rattle.registers.specs.Apart.{never}
 use Rattle.registers.specs.Meaning.{Meaning, Laws, Taken, Exactly, reading, wrong-length, too-large}
 
 -- What becomes of the numbers of a dial and of those after it: the first that is not 0 is at fault.
@@ -23,9 +24,6 @@ panel-meaning dials = record {
   full-scale = 0;
   advance = λ a b. 0;
 }
-
-never : _≡_ {A = ℕ} 0 1 → ⊥
-never z = omega arith
 
 not-wrong : (dial : ℕ) (xs : List ℕ) → all-zero dial xs ≡ wrong-length → ⊥
 not-wrong dial [] e = never (cc)

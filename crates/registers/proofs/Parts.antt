@@ -1,23 +1,25 @@
 -- The answer of a pair to a list, from the answers of its registers to the two parts of the list.
 use mathlib.Core.Path.{_≡_, refl, sym, ap, _∙_}
-use mathlib.Core.Bool.{true, cond}
+use mathlib.Core.Bool.{Bool, true, false, not, cond}
 use mathlib.Core.List.{List}
 use Prim.Native.Nat.{ℕ, _+_, _-_}
 use native.Mathlib.Omega.{arith}
 use lib.Dec.{eqb}
 use lib.ListN.{length, take, drop}
 use Rattle.std.proofs.shelf.Parts.{between-to-end}
-use Rattle.std.proofs.shelf.Tests.{eq-eqb, cond-true}
+use Rattle.std.proofs.shelf.Tests.{eq-eqb, both-ways, cond-true, cond-both}
+use Rattle.std.specs.Options.{isSome}
+use Rattle.std.specs.declared.option.Option.{Option}
+use Rattle.std.specs.declared.option.Option.the-variants.{Some, None}
 use Rattle.std.specs.declared.result.Result.{Result}
 use Rattle.std.specs.declared.result.Result.the-variants.{Ok, Err}
+use Rattle.registers.specs.Apart.{never}
 use Rattle.registers.specs.Meaning.{Meaning, Taken, reading, wrong-length, too-large}
 use Rattle.registers.specs.Faults.{told, counted-on}
-use Rattle.registers.specs.Pairs.{may-pair, both-taken, side-by-side, beyond-limits, pair-meaning}
+use Rattle.registers.specs.Pairs.{may-pair, joint-extent, both-taken, side-by-side, beyond-limits, pair-meaning}
+use Rattle.registers.specs.declared.register.Extent.{Extent}
 use Rattle.registers.specs.declared.fault.RegisterFault.{RegisterFault}
 use Rattle.registers.specs.declared.fault.RegisterFault.the-variants.{WrongCount, NumberTooLarge}
-
-never : _≡_ {A = ℕ} 0 1 → ⊥
-never z = omega arith
 
 module _ {K L : Type 0} where
   told-both : (d : ℕ) (t : Taken K) (u : Taken L) (k : K) (l : L) → told t ≡ Ok k → told u ≡ Ok l → told (both-taken d t u) ≡ Ok (k, l)
@@ -33,6 +35,12 @@ module _ {K L : Type 0} where
   told-second d (reading a) (too-large j) k e p q = let w : e ≡ NumberTooLarge j = cc in rw w refl
   told-second d wrong-length u k e p q = absurd (never (cc))
   told-second d (too-large i) u k e p q = absurd (never (cc))
+
+-- Two registers that have dials and a full scale as one may be read as one.
+pub joint-fits : {K L : Type 0} (m : Meaning K) (n : Meaning L) (o : Option Extent) (none : Bool) → o ≡ joint-extent m n → isSome o ≡ not none → none ≡ false → may-pair m n ≡ true
+joint-fits m n o none o-is none-is some =
+    cond-both (may-pair m n) (Some (record { dials = m .dials + n .dials; «full_scale» = m .full-scale + n .full-scale })) None (λ e. o ≡ e → may-pair m n ≡ true)
+    (λ fits _. fits) (λ _ q. let some-is : isSome o ≡ false = ap isSome q in let b : isSome o ≡ true = none-is ∙ ap not some in absurd (both-ways (isSome o) some-is b)) o-is
 
 -- d is the number of dials that the code has of the first register; it hands the two registers the parts `&xs[0..d]`
 -- and `&xs[d..]` of the list, and they answer r and s.

@@ -9,11 +9,9 @@ use lib.Dec.{leb, eqb}
 use lib.ListN.{length, take, drop, length-append, length-drop}
 use lib.Seq.{length-take-le, take-append-seam, drop-append-seam}
 use Rattle.std.proofs.shelf.Tests.{leb-true, eq-eqb, ne-eqb, eqb-true, cases-eq, cases-bool, cond-both, and-parts, and-from, cond-true, cond-false}
+use Rattle.registers.specs.Apart.{never}
 use Rattle.registers.specs.Meaning.{Meaning, Laws, Taken, Exactly, reading, wrong-length, too-large}
 use Rattle.registers.specs.Pairs.{may-pair, both-taken, side-by-side, beyond-limits, pair-meaning}
-
-never : _≡_ {A = ℕ} 0 1 → ⊥
-never z = omega arith
 
 -- What an answer of the pair tells of the answers of its two registers.
 module _ {K L : Type 0} where

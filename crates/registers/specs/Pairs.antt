@@ -8,11 +8,17 @@ use Rattle.std.specs.declared.option.Option.{Option}
 use Rattle.std.specs.declared.option.Option.the-variants.{Some, None}
 use Rattle.faults.specs.declared.Listing.{Listing}
 use Rattle.faults.specs.Listings.{listing}
+use Rattle.registers.specs.declared.register.Extent.{Extent}
 use Rattle.registers.specs.Meaning.{Taken, Meaning, reading, wrong-length, too-large}
 
 -- Whether two registers may be read as one: at most 10^15 Wh and 64 dials together.
 abbrev pub may-pair : {K L : Type 0} → Meaning K → Meaning L → Bool
 may-pair m n = leb (m .full-scale + n .full-scale) (10 ^ 15) && leb (m .dials + n .dials) 64
+
+-- Dials and full scale of two registers as one, if they may be.
+abbrev pub joint-extent : {K L : Type 0} → Meaning K → Meaning L → Option Extent
+joint-extent m n =
+    cond (may-pair m n) (Some (record { dials = m .dials + n .dials; «full_scale» = m .full-scale + n .full-scale })) None
 
 -- Why two registers make no pair.
 abbrev pub pair-refusal : {K L : Type 0} → Meaning K → Meaning L → Option Listing

@@ -6,23 +6,18 @@ ghost use Prim.Native.Nat.{_^_, _≤_, _<_};
 ghost use Rattle.std.specs.Results.{Cases};
 ghost use Rattle.registers.specs.Faults.{listed, told};
 use crate::fault::RegisterFault;
+use crate::register::Extent;
 use crate::register::Register;
 
-// The dials: 1 to 64.
-pub fn dials<R: Register>(register: &R) -> usize
-    ensures value { λ r. ⌜ r ≡ R·Register .meaning (now (register .entry)) .dials ⌝ }
-    ensures least { λ r. ⌜ 1 ≤ r ⌝ }
-    ensures most { λ r. ⌜ r ≤ 64 ⌝ }
+// Dials and full scale: 1 to 64 dials, and at most 10^15 Wh.
+pub fn extent<R: Register>(register: &R) -> Extent
+    ensures dials { λ r. ⌜ r .dials ≡ R·Register .meaning (now (register .entry)) .dials ⌝ }
+    ensures scale { λ r. ⌜ r .«full_scale» ≡ R·Register .meaning (now (register .entry)) .full-scale ⌝ }
+    ensures least_dials { λ r. ⌜ 1 ≤ r .dials ⌝ }
+    ensures most_dials { λ r. ⌜ r .dials ≤ 64 ⌝ }
+    ensures most_scale { λ r. ⌜ r .«full_scale» ≤ 10 ^ 15 ⌝ }
 {
-    register.dials()
-}
-
-// The full scale: at most 10^15 Wh.
-pub fn full_scale<R: Register>(register: &R) -> u64
-    ensures value { λ r. ⌜ r ≡ R·Register .meaning (now (register .entry)) .full-scale ⌝ }
-    ensures most { λ r. ⌜ r ≤ 10 ^ 15 ⌝ }
-{
-    register.full_scale()
+    register.extent()
 }
 
 // The advance: at most the full scale, and so at most 10^15 Wh.

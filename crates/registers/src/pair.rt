@@ -2,10 +2,11 @@
 ghost use mathlib.Core.Path.{_≡_};
 ghost use Prim.Native.Nat.{_≤_, _<_};
 ghost use Rattle.registers.specs.Faults.{listed, refusal, counted-on};
-ghost use Rattle.registers.specs.Pairs.{may-pair, pair-refusal, pair-meaning};
+ghost use Rattle.registers.specs.Pairs.{joint-extent, pair-refusal, pair-meaning};
 ghost use Rattle.registers.specs.PairLaws.{pair-lawful};
 use crate::bounded;
 use crate::fault::RegisterFault;
+use crate::register::Extent;
 use crate::register::Register;
 
 const MOST_ENERGY: u64 = 1_000_000_000_000_000;
@@ -18,12 +19,19 @@ pub struct Pair<A, B> {
     second: B,
 }
 
-// Whether two registers may be read as one.
-fn fits<A: Register, B: Register>(first: &A, second: &B) -> bool
-    ensures { λ r. ⌜ r ≡ may-pair (A·Register .meaning (now (first .entry))) (B·Register .meaning (now (second .entry))) ⌝ }
+// Dials and full scale of two registers as one, if they may be.
+fn join<A: Register, B: Register>(first: &A, second: &B) -> Option<Extent>
+    ensures { λ r. ⌜ r ≡ joint-extent (A·Register .meaning (now (first .entry))) (B·Register .meaning (now (second .entry))) ⌝ }
 {
-    bounded::full_scale(first) + bounded::full_scale(second) <= MOST_ENERGY
-        && bounded::dials(first) + bounded::dials(second) <= MOST_DIALS
+    let front = bounded::extent(first);
+    let back = bounded::extent(second);
+    let full_scale = front.full_scale + back.full_scale;
+    let dials = front.dials + back.dials;
+    if full_scale <= MOST_ENERGY && dials <= MOST_DIALS {
+        Some(Extent { dials, full_scale })
+    } else {
+        None
+    }
 }
 
 // A fault of a register whose dials stand after so many others.
@@ -44,10 +52,9 @@ impl<A: Register, B: Register> Pair<A, B> {
     pub fn check(first: &A, second: &B) -> Result<(), RegisterFault>
         ensures { λ r. ⌜ refusal r ≡ pair-refusal (A·Register .meaning (now (first .entry))) (B·Register .meaning (now (second .entry))) ⌝ }
     {
-        if fits(first, second) {
-            Ok(())
-        } else {
-            Err(RegisterFault::PairBeyondLimits)
+        match join(first, second) {
+            Some(_) => Ok(()),
+            None => Err(RegisterFault::PairBeyondLimits),
         }
     }
 
@@ -78,21 +85,17 @@ pub impl<A: Register, B: Register> Register for Pair<A, B> as PairRegister {
     ghost lawful = { λ p. pair-lawful (A·Register .meaning (p .first)) (B·Register .meaning (p .second)) (A·Register .lawful (p .first)) (B·Register .lawful (p .second)) };
 
     fn dials(&self) -> usize {
-        if fits(&self.first, &self.second) {
-            bounded::dials(&self.first) + bounded::dials(&self.second)
-        } else {
-            1
-        }
+        self.extent().dials
     }
 
     fn take(&self, numbers: &[u64]) -> Result<(A::Reading, B::Reading), RegisterFault> {
         if numbers.len() != self.dials() {
             return Err(RegisterFault::WrongCount);
         }
-        if !fits(&self.first, &self.second) {
+        if join(&self.first, &self.second).is_none() {
             return Err(RegisterFault::NumberTooLarge { dial: 0 });
         }
-        let dials = bounded::dials(&self.first);
+        let dials = bounded::extent(&self.first).dials;
         let first = self.first.take(&numbers[0..dials])?;
         match bounded::take(&self.second, &numbers[dials..]) {
             Ok(second) => Ok((first, second)),
@@ -101,16 +104,23 @@ pub impl<A: Register, B: Register> Register for Pair<A, B> as PairRegister {
     }
 
     fn is_given(&self, reading: (A::Reading, B::Reading)) -> bool {
-        fits(&self.first, &self.second)
+        join(&self.first, &self.second).is_some()
             && self.first.is_given(reading.0)
             && self.second.is_given(reading.1)
     }
 
     fn full_scale(&self) -> u64 {
-        if fits(&self.first, &self.second) {
-            bounded::full_scale(&self.first) + bounded::full_scale(&self.second)
-        } else {
-            0
+        self.extent().full_scale
+    }
+
+    // Asked of each register once, so that pairs of pairs cost no more than their registers.
+    fn extent(&self) -> Extent {
+        match join(&self.first, &self.second) {
+            Some(extent) => extent,
+            None => Extent {
+                dials: 1,
+                full_scale: 0,
+            },
         }
     }
 
