@@ -1,5 +1,5 @@
 -- By what a caller knows a fault: its number, the layer that refused, and a place.
-use mathlib.Core.Bool.{cond}
+use mathlib.Core.Bool.{_&&_, cond}
 use mathlib.Core.List.{List, _++_}
 use Prim.Native.Nat.{ℕ}
 use lib.Dec.{leb}
@@ -11,7 +11,7 @@ use Rattle.faults.specs.declared.Listing.{Listing}
 
 -- The layer of a fault by its number: registers have 1 to 5, load shape sources 6 to 11, the account all others.
 abbrev pub layer-of : ℕ → Layer
-layer-of number = cond (leb number 5) Register (cond (leb number 11) Source Account)
+layer-of number = cond (leb 1 number && leb number 5) Register (cond (leb 6 number && leb number 11) Source Account)
 
 -- The listing of a fault, from its number and its place.
 abbrev pub listing : ℕ → ℕ → Listing

@@ -18,7 +18,7 @@ impl Layer {
         ensures { λ r. ⌜ r ≡ layer-of number ⌝ }
     {
         match number {
-            0..=5 => Layer::Register,
+            1..=5 => Layer::Register,
             6..=11 => Layer::Source,
             _ => Layer::Account,
         }
