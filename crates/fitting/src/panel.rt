@@ -70,6 +70,6 @@ pub impl Register for SealedPanel as SealedPanelRegister {
     }
 
     fn advance(&self, _from: u64, _to: u64) -> u64 {
-        0
+        self.full_scale()
     }
 }

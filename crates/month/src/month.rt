@@ -2,7 +2,6 @@
 use crate::meter::Meter;
 use crate::progress;
 use crate::progress::Outcome;
-use crate::progress::Progress;
 use registers::dial::DialRegister;
 use registers::fault::RegisterFaultDisplay;
 use registers::pair::PairRegister;
@@ -64,14 +63,12 @@ pub fn print(rt: LibcRuntime, meter: &Meter) -> io::Result<()> {
     let dials = meter.dials();
     let full_scale = meter.full_scale();
     println!(rt, "A meter of {dials} dials, full scale {full_scale} Wh")?;
-    let mut progress = Progress {
-        last: None,
-        energy: 0,
-    };
+    let mut last = None;
+    let mut energy = 0;
     for reading in READINGS {
-        let outcome = progress::enter(&mut progress, meter, reading.day, &reading.numbers);
+        let outcome = progress::enter(&mut last, meter, reading.day, &reading.numbers);
         print_outcome(rt, reading, outcome)?;
+        energy += outcome.energy();
     }
-    let energy = progress.energy;
     println!(rt, "{energy} Wh in the month")
 }

@@ -1,6 +1,6 @@
-// How far a month of readings has come.
+// What the readings of a month tell, one after the other.
 ghost use mathlib.Core.Path.{_≡_};
-ghost use Prim.Native.Nat.{_+_, _^_, _≤_};
+ghost use Prim.Native.Nat.{_^_, _≤_};
 ghost use Rattle.registers.specs.Faults.{told};
 ghost use Rattle.month.specs.Progress.{since-last, outcome, energy-of, last-after};
 use registers::bounded;
@@ -12,13 +12,6 @@ use registers::register::Register;
 pub struct DatedReading<K> {
     pub day: u32,
     pub kept: K,
-}
-
-// The last reading that was taken, and the energy since the first, in Wh.
-#[derive(Clone, Copy)]
-pub struct Progress<K> {
-    pub last: Option<DatedReading<K>>,
-    pub energy: u64,
 }
 
 // What came of the numbers of one midnight.
@@ -48,8 +41,8 @@ fn compare<R: Register>(
 }
 
 impl Outcome {
-    // The energy that it adds.
-    fn energy(self) -> u64
+    // The energy that it adds, in Wh.
+    pub fn energy(self) -> u64
         ensures { λ r. ⌜ r ≡ energy-of self ⌝ }
     {
         match self {
@@ -59,24 +52,21 @@ impl Outcome {
     }
 }
 
-// Takes the numbers that were read at the midnight which begins a day.
+// Takes the numbers that were read at the midnight which begins a day, after the last reading that was taken.
 pub fn enter<R: Register>(
-    progress: &mut Progress<R::Reading>,
+    last: &mut Option<DatedReading<R::Reading>>,
     register: &R,
     day: u32,
     numbers: &[u64],
 ) -> Outcome
-    requires { ⌜ now progress .energy ≤ 10 ^ 18 ⌝ }
-    ensures value { λ r. ⌜ r ≡ outcome (R·Register .meaning (now (register .entry))) (now (progress .entry) .last) (told (R·Register .meaning (now (register .entry)) .taken (now (numbers .entry)))) ⌝ }
-    ensures last { λ _. ⌜ now (progress .exit) .last ≡ last-after (now (progress .entry) .last) day (told (R·Register .meaning (now (register .entry)) .taken (now (numbers .entry)))) ⌝ }
-    ensures energy { λ r. ⌜ now (progress .exit) .energy ≡ now (progress .entry) .energy + energy-of r ⌝ }
+    ensures value { λ r. ⌜ r ≡ outcome (R·Register .meaning (now (register .entry))) (now (last .entry)) (told (R·Register .meaning (now (register .entry)) .taken (now (numbers .entry)))) ⌝ }
+    ensures last { λ _. ⌜ now (last .exit) ≡ last-after (now (last .entry)) day (told (R·Register .meaning (now (register .entry)) .taken (now (numbers .entry)))) ⌝ }
     ensures most { λ r. ⌜ energy-of r ≤ 10 ^ 15 ⌝ }
 {
     match register.take(numbers) {
         Ok(kept) => {
-            let outcome = compare(register, progress.last, kept);
-            progress.last = Some(DatedReading { day, kept });
-            progress.energy += outcome.energy();
+            let outcome = compare(register, *last, kept);
+            *last = Some(DatedReading { day, kept });
             outcome
         }
         Err(fault) => Outcome::Refused(fault),
