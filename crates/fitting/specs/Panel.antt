@@ -1,6 +1,6 @@
 -- A panel of sealed dials, each of which can only show 0: many numbers, and no energy.
 use mathlib.Core.Path.{_≡_, refl, sym, ap, _∙_}
-use mathlib.Core.Bool.{Bool, true, cond, _&&_}
+use mathlib.Core.Bool.{true, cond}
 use mathlib.Core.List.{List, [], _∷_}
 use mathlib.Core.Logic.{⊎-elim}
 use Prim.Native.Nat.{ℕ, zero, suc, _+_, _≤_, _<_}
@@ -9,7 +9,7 @@ use lib.Dec.{eqb}
 use lib.ListN.{length, replicate, length-replicate}
 use Rattle.std.proofs.shelf.Tests.{eq-eqb, eqb-true, ne-eqb, cases-eq, cond-both, cond-true, cond-false}
 use Rattle.registers.specs.Apart.{never}
-use Rattle.registers.specs.Meaning.{Meaning, Laws, Taken, Exactly, reading, wrong-length, too-large}
+use Rattle.registers.specs.Meaning.{Meaning, Laws, Taken, reading, wrong-length, too-large}
 
 -- What becomes of the numbers of a dial and of those after it: the first that is not 0 is at fault.
 abbrev pub all-zero : ℕ → List ℕ → Taken ℕ

@@ -5,6 +5,7 @@ ghost use lib.Dec.{leb};
 ghost use Rattle.std.specs.Options.{isSome};
 ghost use Rattle.std.specs.Slices.{found};
 ghost use Rattle.fitting.specs.Counter.{counter-meaning, counter-lawful};
+use registers::dial::one_number;
 use registers::fault::RegisterFault;
 use registers::register::Register;
 
@@ -50,16 +51,7 @@ pub impl Register for Counter as CounterRegister {
     }
 
     fn take(&self, numbers: &[u64]) -> Result<u64, RegisterFault> {
-        match numbers {
-            [number] => {
-                if *number <= self.last {
-                    Ok(*number)
-                } else {
-                    Err(RegisterFault::NumberTooLarge { dial: 0 })
-                }
-            }
-            _ => Err(RegisterFault::WrongCount),
-        }
+        one_number(numbers, self.last + 1)
     }
 
     fn is_given(&self, reading: u64) -> bool {

@@ -8,6 +8,7 @@ ghost use Rattle.std.specs.Results.{Cases};
 ghost use Rattle.std.specs.declared.option.Option.the-variants.{Some, None};
 ghost use Rattle.fitting.specs.Disc.{off-round, disc-fault, disc-meaning, disc-lawful};
 use crate::disc_fault::DiscFault;
+use registers::dial::one_number;
 use registers::fault::RegisterFault;
 use registers::register::Register;
 
@@ -68,16 +69,7 @@ pub impl<'a> Register for CodeDisc<'a> as CodeDiscRegister {
     }
 
     fn take(&self, numbers: &[u64]) -> Result<u64, RegisterFault> {
-        match numbers {
-            [code] => {
-                if *code < self.marks.len() as u64 {
-                    Ok(*code)
-                } else {
-                    Err(RegisterFault::NumberTooLarge { dial: 0 })
-                }
-            }
-            _ => Err(RegisterFault::WrongCount),
-        }
+        one_number(numbers, self.marks.len() as u64)
     }
 
     fn is_given(&self, code: u64) -> bool {

@@ -6,7 +6,8 @@ use lib.Dec.{leb, ltb}
 use Rattle.std.specs.declared.option.Option.{Option}
 use Rattle.std.specs.declared.option.Option.the-variants.{Some, None}
 use Rattle.faults.specs.declared.Listing.{Listing}
-use Rattle.faults.specs.Listings.{listing}
+use Rattle.registers.specs.declared.fault.RegisterFault.the-variants.{Digits, Weight}
+use Rattle.registers.specs.Faults.{listed}
 use Rattle.registers.specs.Meaning.{Taken, Meaning, reading, wrong-length, too-large}
 
 -- Whether a number lies within two limits.
@@ -16,7 +17,7 @@ within least most n = leb least n && leb n most
 -- Why digits and a weight make no dial of either kind: 1 to 8 digits, then 1 to 1,000,000 Wh.
 abbrev pub dial-refusal : ℕ → ℕ → Option Listing
 dial-refusal digits weight =
-    cond (within 1 8 digits) (cond (within 1 1000000 weight) None (Some (listing 2 0))) (Some (listing 1 0))
+    cond (within 1 8 digits) (cond (within 1 1000000 weight) None (Some (listed Weight))) (Some (listed Digits))
 
 -- Steps from one number to another on a dial that shows 0 to size - 1, and then 0 again.
 abbrev pub steps : ℕ → ℕ → ℕ → ℕ

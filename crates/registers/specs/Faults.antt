@@ -1,5 +1,4 @@
 -- The faults of a register, by number, layer and place, and what each call answers.
-use mathlib.Core.Path.{_≡_}
 use mathlib.Core.List.{List, _++_}
 use Prim.Native.Nat.{ℕ, _+_}
 use lib.Chars.{codes}

@@ -1,16 +1,16 @@
 -- A pair of two registers shows the laws where both registers do.
-use mathlib.Core.Path.{_≡_, refl, sym, ap, subst, _∙_}
+use mathlib.Core.Path.{_≡_, refl, sym, ap, _∙_}
 use mathlib.Core.Bool.{Bool, true, false, _&&_, cond}
-use mathlib.Core.List.{List, [], _∷_, _++_}
+use mathlib.Core.List.{List, _++_}
 use mathlib.Core.Logic.{_⊎_, inl, inr, ⊎-elim}
 use Prim.Native.Nat.{ℕ, _+_, _-_, _^_, _≤_, _<_}
 use native.Mathlib.Omega.{arith}
 use lib.Dec.{leb, eqb}
 use lib.ListN.{length, take, drop, length-append, length-drop}
 use lib.Seq.{length-take-le, take-append-seam, drop-append-seam}
-use Rattle.std.proofs.shelf.Tests.{leb-true, eq-eqb, ne-eqb, eqb-true, cases-eq, cases-bool, cond-both, and-parts, and-from, cond-true, cond-false}
+use Rattle.std.proofs.shelf.Tests.{leb-true, eq-eqb, ne-eqb, cases-eq, cond-both, and-parts, and-from, cond-true, cond-false}
 use Rattle.registers.specs.Apart.{never}
-use Rattle.registers.specs.Meaning.{Meaning, Laws, Taken, Exactly, reading, wrong-length, too-large}
+use Rattle.registers.specs.Meaning.{Meaning, Laws, Taken, reading, wrong-length, too-large}
 use Rattle.registers.specs.Pairs.{may-pair, both-taken, side-by-side, beyond-limits, pair-meaning}
 
 -- What an answer of the pair tells of the answers of its two registers.

@@ -7,7 +7,8 @@ use lib.ListN.{length, take, drop}
 use Rattle.std.specs.declared.option.Option.{Option}
 use Rattle.std.specs.declared.option.Option.the-variants.{Some, None}
 use Rattle.faults.specs.declared.Listing.{Listing}
-use Rattle.faults.specs.Listings.{listing}
+use Rattle.registers.specs.declared.fault.RegisterFault.the-variants.{PairBeyondLimits}
+use Rattle.registers.specs.Faults.{listed}
 use Rattle.registers.specs.declared.register.Extent.{Extent}
 use Rattle.registers.specs.Meaning.{Taken, Meaning, reading, wrong-length, too-large}
 
@@ -22,7 +23,7 @@ joint-extent m n =
 
 -- Why two registers make no pair.
 abbrev pub pair-refusal : {K L : Type 0} → Meaning K → Meaning L → Option Listing
-pair-refusal m n = cond (may-pair m n) None (Some (listing 3 0))
+pair-refusal m n = cond (may-pair m n) None (Some (listed PairBeyondLimits))
 
 -- What a pair makes of the numbers of its first register, which has so many dials, and of those of its second: both
 -- readings, or the first's fault, or else the second's, whose dials count on from the first's.

@@ -2,8 +2,8 @@
 ghost use mathlib.Core.Path.{_≡_};
 ghost use Prim.Native.Nat.{_^_, _≤_};
 ghost use Rattle.std.specs.Vec.{made};
-ghost use Rattle.registers.specs.Faults.{refusal};
-ghost use Rattle.registers.specs.Dials.{dial-refusal, dial-meaning};
+ghost use Rattle.registers.specs.Faults.{refusal, told};
+ghost use Rattle.registers.specs.Dials.{one-number, dial-refusal, dial-meaning};
 ghost use Rattle.registers.specs.DialLaws.{dial-lawful};
 use crate::fault::RegisterFault;
 use crate::register::Register;
@@ -28,6 +28,22 @@ pub struct Dial {
     ghost most_digits: { digits ≤ 8 },
     ghost least_weight: { 1 ≤ weight },
     ghost most_weight: { weight ≤ 1000000 },
+}
+
+// The one number of a list, if it is below a limit.
+pub fn one_number(numbers: &[u64], limit: u64) -> Result<u64, RegisterFault>
+    ensures { λ r. ⌜ r ≡ told (one-number limit (λ x. x) (now (numbers .entry))) ⌝ }
+{
+    match numbers {
+        [number] => {
+            if *number < limit {
+                Ok(*number)
+            } else {
+                Err(RegisterFault::NumberTooLarge { dial: 0 })
+            }
+        }
+        _ => Err(RegisterFault::WrongCount),
+    }
 }
 
 impl Dial {
@@ -67,16 +83,7 @@ pub impl Register for Dial as DialRegister {
     }
 
     fn take(&self, numbers: &[u64]) -> Result<u64, RegisterFault> {
-        match numbers {
-            [number] => {
-                if *number < self.size() {
-                    Ok(*number)
-                } else {
-                    Err(RegisterFault::NumberTooLarge { dial: 0 })
-                }
-            }
-            _ => Err(RegisterFault::WrongCount),
-        }
+        one_number(numbers, self.size())
     }
 
     fn is_given(&self, reading: u64) -> bool {

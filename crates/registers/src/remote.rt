@@ -6,6 +6,7 @@ ghost use Rattle.registers.specs.Dials.{dial-refusal, remote-meaning};
 ghost use Rattle.registers.specs.DialLaws.{remote-lawful};
 use crate::dial::Dial;
 use crate::dial::DialRegister;
+use crate::dial::one_number;
 use crate::fault::RegisterFault;
 use crate::register::Register;
 
@@ -41,16 +42,8 @@ pub impl Register for RemoteDial as RemoteDialRegister {
     }
 
     fn take(&self, numbers: &[u64]) -> Result<u64, RegisterFault> {
-        match numbers {
-            [number] => {
-                if *number < LIMIT {
-                    Ok(*number % self.dial.size())
-                } else {
-                    Err(RegisterFault::NumberTooLarge { dial: 0 })
-                }
-            }
-            _ => Err(RegisterFault::WrongCount),
-        }
+        let number = one_number(numbers, LIMIT)?;
+        Ok(number % self.dial.size())
     }
 
     fn is_given(&self, reading: u64) -> bool {

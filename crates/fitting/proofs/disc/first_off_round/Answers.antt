@@ -1,14 +1,10 @@
 -- A mark on the round is passed over, the first that is not is told, and where none is left there is none.
-use mathlib.Core.Path.{_≡_, sym, _∙_}
-use mathlib.Core.List.{_∷_}
-use Prim.Native.Nat.{_+_}
+use mathlib.Core.Path.{sym, _∙_}
 use lib.Dec.{ltb}
 use lib.ListN.{getD, drop}
 use Rattle.std.proofs.shelf.Lists.{at-drop-more, at-drop-all}
 use Rattle.std.proofs.shelf.Tests.{lt-ltb, le-ltb, cond-true, cond-false}
-use Rattle.std.specs.declared.option.Option.the-variants.{Some}
 use Rattle.fitting.specs.Disc.{off-round}
-use Rattle.fitting.specs.declared.disc_fault.DiscFault.the-variants.{Mark}
 use Rattle.fitting.proofs.disc.first_off_round.Needs as need
 
 pub returns-then-mark-round : need.returns-then-mark-round

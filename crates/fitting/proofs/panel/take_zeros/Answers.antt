@@ -1,5 +1,5 @@
 -- A 0 is passed over, the first other number is told, and where none is left all are 0.
-use mathlib.Core.Path.{_≡_, sym, ap, _∙_}
+use mathlib.Core.Path.{sym, ap, _∙_}
 use lib.Dec.{eqb}
 use lib.ListN.{getD}
 use Rattle.std.proofs.shelf.Lists.{at-drop-more, at-drop-all}
