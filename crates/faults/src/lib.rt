@@ -1,4 +1,6 @@
 // By what a caller knows a fault of any layer: a number, the layer that refused, and a place.
+#![tactic(auto)]
+
 ghost use Rattle.std.specs.Prelude.{◌≡◌, Some};
 ghost use Rattle.faults.specs.Listings.{layer_of, layer_name, listing, listing_text};
 

@@ -1,5 +1,5 @@
 -- A profile: one list of weights for every category and day.
-use Rattle.std.specs.Prelude.{◌≡◌, ℕ, zero, suc, ◌+◌, ◌^◌, ◌<◌, ◌≤◌, true, false, cond, List, [], ◌∷◌, length, is_some, Some, None, Option, nat_le, slice_index, refl}
+use Rattle.std.specs.Prelude.{◌≡◌, ℕ, zero, suc, ◌+◌, ◌^◌, ◌<◌, ◌≤◌, false, cond, List, [], ◌∷◌, length, is_some, Some, None, Option, nat_le, slice_index, refl}
 use Rattle.std.proofs.Common.{lit≤}
 use Rattle.std.proofs.lemmas.Bool.{leb-true, cond_both, true≢false}
 use Rattle.load_shapes.specs.Meaning.{Meaning, Laws, may_have_periods}

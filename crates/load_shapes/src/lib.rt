@@ -1,4 +1,6 @@
 // Load shape sources: how a day's energy is spread over its periods.
+#![tactic(auto)]
+
 pub mod bounded;
 pub mod day;
 pub mod de_minimis;

@@ -1,4 +1,6 @@
 // A month of one metering system, from the numbers on its dials to the energy between them.
+#![tactic(auto)]
+
 mod meter;
 mod month;
 mod progress;

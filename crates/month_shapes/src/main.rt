@@ -1,5 +1,7 @@
 // The load shapes by which the energy of a month is spread over its days. They come from a table, in the file that is
 // named after the program.
+#![tactic(auto)]
+
 mod shapes;
 
 use anyhow::anyhow;

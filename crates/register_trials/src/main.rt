@@ -1,4 +1,6 @@
 // Tries registers at their edges, and prints what each trial came to.
+#![tactic(auto)]
+
 mod figures;
 mod makes;
 mod pairs;

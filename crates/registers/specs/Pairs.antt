@@ -1,5 +1,5 @@
 -- What two registers mean that are read as one.
-use Rattle.std.specs.Prelude.{ℕ, ◌+◌, ◌^◌, Bool, false, cond, ◌&&◌, List, length, take, drop, Some, None, Option, ◌==◌, nat_le}
+use Rattle.std.specs.Prelude.{ℕ, ◌+◌, ◌^◌, Bool, false, cond, ◌&&◌, length, take, drop, Some, None, Option, ◌==◌, nat_le}
 use Rattle.faults.specs.declared.Listing.{Listing}
 use Rattle.registers.specs.declared.fault.RegisterFault.TheVariants.{PairBeyondLimits}
 use Rattle.registers.specs.Faults.{listed}

@@ -1,4 +1,6 @@
 // Tries sources, layers and tables at their edges.
+#![tactic(auto)]
+
 mod answers;
 mod figures;
 mod layers;

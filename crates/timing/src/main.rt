@@ -1,5 +1,7 @@
 // How long the questions to a table take. The table has an entry for every category and day, so its index is as long as
 // it can be. What was answered goes to standard output, and the times to standard error.
+#![tactic(auto)]
+
 use load_shapes::de_minimis::DeMinimis;
 use load_shapes::even::EvenSource;
 use load_shapes::source::Source;

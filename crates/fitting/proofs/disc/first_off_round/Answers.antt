@@ -1,5 +1,5 @@
 -- A mark on the round is passed over, the first that is not is told, and where none is left there is none.
-use Rattle.std.proofs.Common.{ltb, get_or, drop, sym, ◌∙◌}
+use Rattle.std.proofs.Common.{ltb, get_or, sym, ◌∙◌}
 use Rattle.std.proofs.lemmas.List.{at_drop_more, at_drop_all}
 use Rattle.std.proofs.lemmas.Bool.{lt-ltb, le-ltb, cond-true, cond-false}
 use Rattle.fitting.specs.Disc.{off_round}

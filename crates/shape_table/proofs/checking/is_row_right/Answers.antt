@@ -5,9 +5,9 @@ use Rattle.shape_table.specs.Layout.{row_right, row_weight, header_periods}
 use Rattle.shape_table.proofs.Scans.{each_below_more, each_below_false}
 use Rattle.shape_table.proofs.checking.is_row_right.Goals as goal
 
-pub returns-then-weight-at-gt10000 : goal.returns-then-weight-at-gt10000
+pub returns-then-weight_at-gt10000 : goal.returns-then-weight_at-gt10000
 unfolding row_right
-returns-then-weight-at-gt10000 c =
+returns-then-weight_at-gt10000 c =
     sym (each_below_false (λ j. leb (row_weight c.args.bytes.now c.args.row j) 10000) (header_periods c.args.bytes.now) c.loop-period.period (omega arith) (lt-leb _ _ (omega arith)))
 
 pub loop-period-preserved : goal.loop-period-preserved

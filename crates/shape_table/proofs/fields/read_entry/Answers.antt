@@ -9,11 +9,11 @@ bounds-bytes-at c = let w = entry_within c.args.bytes.now c.args.place c.require
 pub bounds-bytes-at-2 : goal.bounds-bytes-at-2
 bounds-bytes-at-2 c = let w = entry_within c.args.bytes.now c.args.place c.requires.placed.areas c.requires.within in omega arith
 
-pub u16-at-requires : goal.u16-at-requires
-u16-at-requires c = let w = entry_within c.args.bytes.now c.args.place c.requires.placed.areas c.requires.within in omega arith
+pub u16_at-requires : goal.u16_at-requires
+u16_at-requires c = let w = entry_within c.args.bytes.now c.args.place c.requires.placed.areas c.requires.within in omega arith
 
-pub u16-at-requires-2 : goal.u16-at-requires-2
-u16-at-requires-2 c = let w = entry_within c.args.bytes.now c.args.place c.requires.placed.areas c.requires.within in omega arith
+pub u16_at-requires-2 : goal.u16_at-requires-2
+u16_at-requires-2 c = let w = entry_within c.args.bytes.now c.args.place c.requires.placed.areas c.requires.within in omega arith
 
-pub u16-at-requires-3 : goal.u16-at-requires-3
-u16-at-requires-3 c = let w = entry_within c.args.bytes.now c.args.place c.requires.placed.areas c.requires.within in omega arith
+pub u16_at-requires-3 : goal.u16_at-requires-3
+u16_at-requires-3 c = let w = entry_within c.args.bytes.now c.args.place c.requires.placed.areas c.requires.within in omega arith

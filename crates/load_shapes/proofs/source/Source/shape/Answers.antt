@@ -4,8 +4,8 @@ use Rattle.load_shapes.specs.Meaning.{weight_of}
 use Rattle.load_shapes.proofs.Filled.{Filled, filled_none, asked_more, asked_all, periods_most}
 use Rattle.load_shapes.proofs.source.Source.shape.Goals as goal
 
-pub offset-bounds-weights-period : goal.offset-bounds-weights-period
-offset-bounds-weights-period g c =
+pub offset_bounds-weights-period : goal.offset_bounds-weights-period
+offset_bounds-weights-period g c =
     let most = periods_most (g.Self.Source.meaning c.args.self.now) (g.Self.Source.lawful c.args.self.now) in
     omega arith
 
@@ -22,14 +22,14 @@ loop-period-preserved g c =
     let most = periods_most (g.Self.Source.meaning c.args.self.now) (g.Self.Source.lawful c.args.self.now) in
     let place : c.loop-period.period < 96 = omega arith in
     let o = (g.Self.Source.meaning c.args.self.now).shape c.args.category c.args.day in
-    asked_more o c.loop-period.period c.loop-period.weights c.weight.result c.unwrap-or.result place c.weight.ensures c.unwrap-or.ensures c.loop-period.invariant
+    asked_more o c.loop-period.period c.loop-period.weights c.weight.result c.unwrap_or.result place c.weight.ensures c.unwrap_or.ensures c.loop-period.invariant
 
 pub returns : goal.returns
 returns g c =
     let m = g.Self.Source.meaning c.args.self.now in
     let o = m.shape c.args.category c.args.day in
     let all : c.loop-period.period ≡ m.periods = omega arith in
-    asked_all o c.in-ok-count.count m.periods c.loop-period.weights
-    (sym c.in-ok-count.was ∙ c.count.ensures)
+    asked_all o c.in_ok-count.count m.periods c.loop-period.weights
+    (sym c.in_ok-count.was ∙ c.count.ensures)
     ((g.Self.Source.lawful c.args.self.now).well_formed c.args.category c.args.day)
     (subst (λ n. Filled (λ k. unwrap_or (weight_of o k) 0) n c.loop-period.weights) all c.loop-period.invariant)

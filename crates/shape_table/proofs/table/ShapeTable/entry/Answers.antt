@@ -3,8 +3,8 @@ use Rattle.std.proofs.Common.{arith, rules}
 use Rattle.shape_table.specs.TableLaws.{sound, in_range}
 use Rattle.shape_table.proofs.table.ShapeTable.entry.Goals as goal
 
-pub read-entry-requires : goal.read-entry-requires
-read-entry-requires c =
+pub read_entry-requires : goal.read_entry-requires
+read_entry-requires c =
     let s = sound c.args.self.now.bytes.now c.args.self.now.checked in
     record { placed = s.placed; within = c.requires }
 

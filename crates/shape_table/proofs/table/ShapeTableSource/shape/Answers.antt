@@ -7,13 +7,13 @@ use Rattle.shape_table.proofs.Weights.{day_written}
 use Rattle.shape_table.proofs.table.ShapeTableSource.shape.Goals as goal
 
 pub entry-count-requires : goal.entry-count-requires
-entry-count-requires c = entry_of_below c.args.self.now.bytes.now c.args.category c.args.day c.in-ok-place.place (sym c.in-ok-place.ensures)
+entry-count-requires c = entry_of_below c.args.self.now.bytes.now c.args.category c.args.day c.in_ok-place.place (sym c.in_ok-place.ensures)
 
 pub loop-period-init : goal.loop-period-init
 loop-period-init c = filled_none _
 
-pub offset-bounds-weights-period : goal.offset-bounds-weights-period
-offset-bounds-weights-period c =
+pub offset_bounds-weights-period : goal.offset_bounds-weights-period
+offset_bounds-weights-period c =
     let table = c.args.self.now in
     let most = periods_most (table_meaning table.bytes.now) (table_lawful table.bytes.now table.octets table.checked) in
     omega arith
@@ -35,6 +35,6 @@ pub returns : goal.returns
 returns c =
     let bs = c.args.self.now.bytes.now in
     let all : c.loop-period.period ≡ header_periods bs = omega arith in
-    day_written bs c.args.category c.args.day c.in-ok-place.place c.in-ok-place.ensures
-    c.entry_count.result.count c.entry_count.result.row c.loop-period.period c.loop-period.weights
-    c.entry_count.ensures.count c.entry_count.ensures.row all c.loop-period.invariant
+    day_written bs c.args.category c.args.day c.in_ok-place.place c.in_ok-place.ensures
+    c.entry-count.result.count c.entry-count.result.row c.loop-period.period c.loop-period.weights
+    c.entry-count.ensures.count c.entry-count.ensures.row all c.loop-period.invariant
