@@ -11,7 +11,6 @@ top=$(cd "$(dirname "$0")/.." && pwd)
 work=$(mktemp -d)
 trap 'rm -rf "$work"' EXIT
 mkdir -p "$work/crates/tried/src"
-cp "$top/crates.txt" "$work/crates.txt"
 
 # compile TEXT CRATES: what the compiler says of the text as a program over these crates is left in $work/said
 compile() {

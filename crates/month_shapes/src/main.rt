@@ -7,7 +7,7 @@ mod shapes;
 use anyhow::anyhow;
 use std::{env, fs};
 
-fn run(rt: HostRuntime) -> anyhow::Result<()> {
+fn main(rt: HostRuntime) -> anyhow::Result<()> {
     let mut words = env::args(&rt)?;
     let Some(path) = words.nth(1) else {
         return Err(anyhow!("the file of a shape table is wanted"));
@@ -15,8 +15,4 @@ fn run(rt: HostRuntime) -> anyhow::Result<()> {
     let table = fs::read(&rt, path.as_str())?;
     shapes::print(rt, &table)?;
     Ok(())
-}
-
-fn main(rt: HostRuntime) -> anyhow::Result<()> {
-    run(rt)
 }

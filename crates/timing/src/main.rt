@@ -115,7 +115,7 @@ fn time_layers(rt: HostRuntime, table: ShapeTable, even: EvenSource) -> anyhow::
     time(rt, "even source", &even)
 }
 
-fn run(rt: HostRuntime) -> anyhow::Result<()> {
+fn main(rt: HostRuntime) -> anyhow::Result<()> {
     let bytes = build(rt.alloc())?;
     let mut table = ShapeTable::empty();
     let start = Instant::now(&rt)?;
@@ -132,8 +132,4 @@ fn run(rt: HostRuntime) -> anyhow::Result<()> {
             Ok(())
         }
     }
-}
-
-fn main(rt: HostRuntime) -> anyhow::Result<()> {
-    run(rt)
 }
