@@ -4,7 +4,6 @@ use lib.ListN.{length-replicate, get_or-replicate}
 use Rattle.std.proofs.lemmas.List.FromFn.{fill_by_all}
 use Rattle.std.proofs.lemmas.List.{get_or_past}
 use Rattle.std.proofs.lemmas.Bool.{cases_lt, cases_eq, lt-ltb, cond-true}
-use Rattle.faults.specs.Apart.{never}
 use Rattle.load_shapes.specs.Meaning.{Shape, WellFormed, Laws, Meaning, count_of, weight_of}
 use Rattle.load_shapes.specs.Days.{laid_out, day_shape_of}
 
@@ -65,7 +64,7 @@ filled_all weight s p places e w h =
 pub asked_all : (o : Option Shape) (count periods : ℕ) (places : List ℕ) → Some count ≡ count_of o
     → ((s : Shape) → o ≡ Some s → WellFormed periods s)
     → Filled (λ k. unwrap_or (weight_of o k) 0) periods places → Some (record { count = count; weights = places }) ≡ day_shape_of o
-asked_all None count p places e w h = absurd (never (cc))
+asked_all None count p places e w h = absurd (cc)
 asked_all (Some s) count p places e w h =
     let same : count ≡ s.count = cc in
     let size = (w s refl).one_weight_each in

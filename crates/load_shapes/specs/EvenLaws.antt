@@ -1,8 +1,7 @@
--- A source with one well_formed shape everywhere shows the laws, and so does the even source.
+-- A source with one well-formed shape everywhere shows the laws, and so does the even source.
 use Rattle.std.specs.Prelude.{◌≡◌, ℕ, Bool, true, false, cond, ◌&&◌, ◌⊎◌, Some, None, ◌==◌, nat_lt}
 use Rattle.std.proofs.Common.{subst, inl, inr, ⊎_elim, lit<, lit≤}
 use Rattle.std.proofs.lemmas.Bool.{or_cases, eqb-true, le-ltb, and_left, and_right, cond-false}
-use Rattle.faults.specs.Apart.{never}
 use Rattle.load_shapes.specs.Meaning.{Shape, WellFormed, Laws, may_have_periods}
 use Rattle.load_shapes.specs.Weights.{by_rule, by_rule_each, by_rule_most}
 use Rattle.load_shapes.specs.Even.{everywhere, even_meaning}
@@ -14,7 +13,7 @@ either_periods p h = ⊎_elim (λ e. inl (eqb-true p 48 e)) (λ e. inr (eqb-true
 -- Where a shape is one of two alternatives, or none, it is the one.
 one_shape : (b : Bool) (p : ℕ) (s t : Shape) → WellFormed p s → cond b (Some s) None ≡ Some t → WellFormed p t
 one_shape true p s t h e = let same : s ≡ t = cc in subst (λ (u : Shape). WellFormed p u) same h
-one_shape false p s t h e = absurd (never (cc))
+one_shape false p s t h e = absurd (cc)
 
 pub everywhere_lawful : (periods : ℕ) (s : Shape) → may_have_periods periods ≡ true → WellFormed periods s → Laws (everywhere periods s)
 everywhere_lawful p s h w = record {

@@ -2,13 +2,12 @@
 use Rattle.std.specs.Prelude.{◌≡◌, ℕ, Bool, true, false, cond, ◌⊎◌, Some, None, Option, nat_eq, nat_lt, refl}
 use Rattle.std.proofs.Common.{sym, ap, subst, inl, inr, ⊎_elim}
 use Rattle.std.proofs.lemmas.Bool.{eqb-true}
-use Rattle.faults.specs.Apart.{never}
 use Rattle.load_shapes.specs.Meaning.{Shape, Meaning, WellFormed, Laws}
 use Rattle.load_shapes.specs.Layers.{unless_under, de_minimis_meaning, first_of, standing_in, substitute_meaning}
 
 -- What is left after a choice between a shape and none was there before.
 kept_else : (b : Bool) (o : Option Shape) (s : Shape) → cond b None o ≡ Some s → o ≡ Some s
-kept_else true o s e = absurd (never (cc))
+kept_else true o s e = absurd (cc)
 kept_else false o s e = e
 
 under_kept : (threshold : ℕ) (o : Option Shape) (s : Shape) → unless_under threshold o ≡ Some s → o ≡ Some s
@@ -31,7 +30,7 @@ one_of (Some y) b x e = inl e
 -- What stands in is the second source's, of a day with as many periods.
 stood_in : (b : Bool) (p q : ℕ) (o : Option Shape) (s : Shape) → (b ≡ true → p ≡ q) → (o ≡ Some s → WellFormed q s) → cond b o None ≡ Some s → WellFormed p s
 stood_in true p q o s same h e = let r : q ≡ p = sym (same refl) in subst (λ (n : ℕ). WellFormed n s) r (h e)
-stood_in false p q o s same h e = absurd (never (cc))
+stood_in false p q o s same h e = absurd (cc)
 
 both_none : (b : Bool) (x y : Option Shape) → x ≡ None → y ≡ None → first_of x (cond b y None) ≡ None
 both_none true x y h k = rw (h, k)

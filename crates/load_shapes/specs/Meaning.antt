@@ -28,7 +28,7 @@ pub record WellFormed (periods : ℕ) (s : Shape) : Type 0 where
 pub record Laws (m : Meaning) : Type 0 where
   -- a day has 48 or 96 periods
   pub day_periods : (m.periods ≡ 48) ⊎ (m.periods ≡ 96)
-  -- whatever shape there is is well_formed
+  -- whatever shape there is is well-formed
   pub well_formed : (category day : ℕ) (s : Shape) → m.shape category day ≡ Some s → WellFormed m.periods s
   -- there is none beyond category 63 or day 399
   pub no_category : (category day : ℕ) → 64 ≤ category → m.shape category day ≡ None

@@ -2,21 +2,20 @@
 use Rattle.std.specs.Prelude.{◌≡◌, ℕ, zero, suc, ◌<◌, Bool, true, false, cond, ◌⊎◌, Some, None, Option, refl}
 use Rattle.std.proofs.Common.{sym, ap, ◌∙◌, inl, inr, ⊎_elim, arith}
 use Rattle.std.proofs.lemmas.Bool.{cases_lt, and_parts}
-use Rattle.faults.specs.Apart.{never}
 use Rattle.load_shapes.specs.Layers.{first_of}
 use Rattle.shape_table.specs.First.{first_that, each_below}
 
 pub first_none : {X : Type 0} (x y : Option X) → first_of x y ≡ None → (x ≡ None) × (y ≡ None)
 first_none None y e = (refl, e)
-first_none (Some x) y e = absurd (never (cc))
+first_none (Some x) y e = absurd (cc)
 
 here_none : (b : Bool) (n : ℕ) → cond b (Some n) None ≡ None → b ≡ false
-here_none true n e = absurd (never (cc))
+here_none true n e = absurd (cc)
 here_none false n e = refl
 
 here_some : (b : Bool) (n k : ℕ) → cond b (Some n) None ≡ Some k → (n ≡ k) × (b ≡ true)
 here_some true n k e = (cc, refl)
-here_some false n k e = absurd (never (cc))
+here_some false n k e = absurd (cc)
 
 either_some : (x y : Option ℕ) (k : ℕ) → first_of x y ≡ Some k → (x ≡ Some k) ⊎ ((x ≡ None) × (y ≡ Some k))
 either_some None y k e = inr (refl, e)
@@ -42,7 +41,7 @@ first_that_none test (suc n) h =
 
 -- The first is below the limit and passes, and none before it does.
 pub first_that_is : (test : ℕ → Bool) (n k : ℕ) → first_that test n ≡ Some k → (k < n) × (test k ≡ true) × ((j : ℕ) → j < k → test j ≡ false)
-first_that_is test zero k e = absurd (never (cc))
+first_that_is test zero k e = absurd (cc)
 first_that_is test (suc n) k e =
     ⊎_elim
     (λ a. let p = first_that_is test n k a in (omega (arith, p.0), p.1, p.2))

@@ -1,5 +1,5 @@
 -- What bytes mean as a shape table, by where they lie. Numbers have their low byte first.
-use Rattle.std.specs.Prelude.{◌≡◌, ℕ, ◌+◌, ◌-◌, ◌*◌, ◌<◌, ◌≤◌, Bool, true, cond, not, ◌&&◌, ◌||◌, leb, List, length, Some, None, Option, ◌==◌, nat_le, nat_lt, slice_index}
+use Rattle.std.specs.Prelude.{◌≡◌, ℕ, ◌+◌, ◌-◌, ◌*◌, ◌<◌, ◌≤◌, Bool, true, cond, not, ◌&&◌, ◌||◌, List, length, Some, None, Option, ◌==◌, nat_le, nat_lt, slice_index}
 use Rattle.std.specs.Option.{option_map}
 use Rattle.load_shapes.specs.declared.fault.SourceFault.{SourceFault}
 use Rattle.load_shapes.specs.declared.fault.SourceFault.TheVariants.{TooShort, Periods, ZeroField, Misplaced, Entry, Row}
@@ -112,7 +112,7 @@ entry_right bytes entry = entry_in_range bytes entry && entry_above_last bytes e
 
 -- A row is right where it has no weight above 10,000.
 unfoldable pub row_right : List ℕ → ℕ → Bool
-row_right bytes row = each_below (λ period. leb (row_weight bytes row period) 10000) (header_periods bytes)
+row_right bytes row = each_below (λ period. nat_le (row_weight bytes row period) 10000) (header_periods bytes)
 
 -- The first entry that is not right, if there is one.
 unfoldable pub first_wrong_entry : List ℕ → Option ℕ

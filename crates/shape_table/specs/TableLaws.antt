@@ -1,9 +1,8 @@
 -- Bytes without a fault show the laws of a source.
-use Rattle.std.specs.Prelude.{◌≡◌, ℕ, ◌+◌, ◌^◌, ◌<◌, ◌≤◌, Bool, true, false, not, ◌&&◌, leb, List, length, is_some, Some, None, Option, ◌==◌, nat_le, nat_lt, refl}
+use Rattle.std.specs.Prelude.{◌≡◌, ℕ, ◌+◌, ◌^◌, ◌<◌, ◌≤◌, Bool, true, false, not, ◌&&◌, List, length, is_some, Some, None, Option, ◌==◌, nat_le, nat_lt, refl}
 use Rattle.std.proofs.Common.{subst, arith}
 use Rattle.std.proofs.lemmas.Bool.{and_parts, and_left, and_right, not-false, ne_eqb, leb-true, ltb-true, true≢false}
 use Rattle.std.specs.Option.{option_map}
-use Rattle.faults.specs.Apart.{never}
 use Rattle.load_shapes.specs.declared.fault.SourceFault.TheVariants.{TooShort, Periods, ZeroField, Misplaced, Entry, Row}
 use Rattle.load_shapes.specs.Weights.{by_rule_each, by_rule_most}
 use Rattle.load_shapes.specs.EvenLaws.{either_periods}
@@ -64,7 +63,7 @@ u16_most bs b i = omega (arith, b i, b (i + 1))
 
 row_most : (bytes : List ℕ) (row : ℕ) → row_right bytes row ≡ true → (j : ℕ) → j < header_periods bytes → row_weight bytes row j ≤ 10000
 unfolding row_right
-row_most bs r h j l = leb-true (row_weight bs r j) 10000 (each_below_is (λ i. leb (row_weight bs r i) 10000) (header_periods bs) h j l)
+row_most bs r h j l = leb-true (row_weight bs r j) 10000 (each_below_is (λ i. nat_le (row_weight bs r i) 10000) (header_periods bs) h j l)
 
 entry_well_formed : (bytes : List ℕ) → Bytes bytes → (entry : ℕ) → row_right bytes (entry_row bytes entry) ≡ true → WellFormed (header_periods bytes) (entry_shape bytes entry)
 entry_well_formed bs b k h = record {
@@ -89,15 +88,15 @@ no_day bs s c d h =
     first_that_none (λ k. (entry_category bs k == c) && entry_day bs k == d) (header_entries bs)
     (λ k l. let r = in_range bs k (s.entries k l) in and_right (entry_category bs k == c) (entry_day bs k == d) (ne_eqb (entry_day bs k) d (λ e. omega (arith, r.day))))
 
-mapped_some : {X Y : Type 0} (f : X → Y) (o : Option X) (y : Y) → option_map f o ≡ Some y → (x : X) × (o ≡ Some x) × (f x ≡ y)
-mapped_some f None y e = absurd (never (cc))
-mapped_some f (Some x) y e = (x, refl, cc)
+option_map_some : {X Y : Type 0} (f : X → Y) (o : Option X) (y : Y) → option_map f o ≡ Some y → (x : X) × (o ≡ Some x) × (f x ≡ y)
+option_map_some f None y e = absurd (cc)
+option_map_some f (Some x) y e = (x, refl, cc)
 
 sound_lawful : (bytes : List ℕ) → Bytes bytes → Sound bytes → Laws (table_meaning bytes)
 sound_lawful bs b s = record {
   day_periods = either_periods (header_periods bs) s.periods;
   well_formed = λ c d t e.
-      let p = mapped_some (entry_shape bs) (entry_of bs c d) t e in
+      let p = option_map_some (entry_shape bs) (entry_of bs c d) t e in
       let r = in_range bs p.0 (s.entries p.0 (entry_of_below bs c d p.0 p.1)) in
       subst (λ (u : Shape). WellFormed (header_periods bs) u) p.2 (entry_well_formed bs b p.0 (s.rows (entry_row bs p.0) r.row));
   no_category = λ c d h. rw (no_category bs s c d h);
