@@ -2,7 +2,8 @@
 #![tactic(auto)]
 
 ghost use Rattle.std.specs.Prelude.{◌≡◌, Some};
-ghost use Rattle.faults.specs.Listings.{layer_of, layer_name, listing, listing_text};
+ghost use Rattle.std.specs.Fmt.{DisplaysOnOk};
+ghost use Rattle.faults.specs.Listings.{layer_of, layer_name, listing, listing_text, fault_text};
 
 use std::fmt;
 
@@ -68,5 +69,32 @@ impl fmt::Display for Listing {
         let layer = self.layer;
         let place = self.place;
         write!(f, "fault {number}, layer {layer}, place {place}")
+    }
+}
+
+// A fault of any layer: why something was refused.
+pub trait Fault: Copy {
+    ghost use Rattle.std.specs.Prelude.{ℕ, List};
+    ghost use Rattle.faults.specs.declared.Listing.{Listing};
+
+    ghost listed: { Self → Listing };
+
+    ghost reason: { Self → List ℕ };
+
+    // Number, layer and place of the fault.
+    fn listing(self) -> Listing
+        ensures { result ≡ listed self };
+
+    // What is wrong, in words.
+    fn reason(self) -> &'static str
+        ensures { result.now ≡ reason self };
+
+    // What every fault prints: what is wrong, and then number, layer and place.
+    final fn describe<W: fmt::Write>(self, f: &mut fmt::Formatter<W>) -> fmt::Result
+        ensures { DisplaysOnOk W.write_str_gives f.old result (Some (fault_text (reason self) (listed self))) f.new }
+    {
+        let reason = self.reason();
+        let listing = self.listing();
+        write!(f, "{reason} ({listing})")
     }
 }

@@ -1,8 +1,8 @@
 -- A source with one well-formed shape everywhere shows the laws, and so does the even source.
-use Rattle.std.specs.Prelude.{◌≡◌, ℕ, Bool, true, false, cond, ◌&&◌, ◌⊎◌, Some, None, ◌==◌, nat_lt}
+use Rattle.std.specs.Prelude.{◌≡◌, ℕ, Bool, true, false, if◌then◌else◌, ◌⊎◌, Some, None, ◌==◌, nat_lt}
 use Rattle.std.proofs.Common.{subst, inl, inr, ⊎_elim, lit<, lit≤}
 use Rattle.std.proofs.lemmas.Bool.{or_cases, eqb-true, le-ltb, and_left, and_right, cond-false}
-use Rattle.load_shapes.specs.Meaning.{Shape, WellFormed, Laws, may_have_periods}
+use Rattle.load_shapes.specs.Meaning.{Shape, WellFormed, Laws, is_within_bounds, may_have_periods}
 use Rattle.load_shapes.specs.Weights.{by_rule, by_rule_each, by_rule_most}
 use Rattle.load_shapes.specs.Even.{everywhere, even_meaning}
 
@@ -10,17 +10,17 @@ use Rattle.load_shapes.specs.Even.{everywhere, even_meaning}
 pub either_periods : (periods : ℕ) → may_have_periods periods ≡ true → (periods ≡ 48) ⊎ (periods ≡ 96)
 either_periods p h = ⊎_elim (λ e. inl (eqb-true p 48 e)) (λ e. inr (eqb-true p 96 e)) (or_cases (p == 48) (p == 96) h)
 
--- Where a shape is one of two alternatives, or none, it is the one.
-one_shape : (b : Bool) (p : ℕ) (s t : Shape) → WellFormed p s → cond b (Some s) None ≡ Some t → WellFormed p t
+-- What is one shape or none, and is there, is that shape.
+one_shape : (b : Bool) (p : ℕ) (s t : Shape) → WellFormed p s → (if b then Some s else None) ≡ Some t → WellFormed p t
 one_shape true p s t h e = let same : s ≡ t = cc in subst (λ (u : Shape). WellFormed p u) same h
 one_shape false p s t h e = absurd (cc)
 
 pub everywhere_lawful : (periods : ℕ) (s : Shape) → may_have_periods periods ≡ true → WellFormed periods s → Laws (everywhere periods s)
 everywhere_lawful p s h w = record {
   day_periods = either_periods p h;
-  well_formed = λ c d t e. one_shape (nat_lt c 64 && nat_lt d 400) p s t w e;
-  no_category = λ c d l. cond-false (nat_lt c 64 && nat_lt d 400) (Some s) None (and_left (nat_lt c 64) (nat_lt d 400) (le-ltb c 64 l));
-  no_day = λ c d l. cond-false (nat_lt c 64 && nat_lt d 400) (Some s) None (and_right (nat_lt c 64) (nat_lt d 400) (le-ltb d 400 l));
+  well_formed = λ at t e. one_shape (is_within_bounds at) p s t w e;
+  no_category = λ at l. cond-false (is_within_bounds at) (Some s) None (and_left (nat_lt at.category 64) (nat_lt at.day 400) (le-ltb at.category 64 l));
+  no_day = λ at l. cond-false (is_within_bounds at) (Some s) None (and_right (nat_lt at.category 64) (nat_lt at.day 400) (le-ltb at.day 400 l));
 }
 
 pub even_lawful : (periods : ℕ) → may_have_periods periods ≡ true → Laws (even_meaning periods)

@@ -1,8 +1,7 @@
 -- The faults of a source, by number, layer and place.
-use Rattle.std.specs.Prelude.{ℕ, List, ◌++◌, Some, None, Ok, Err, codes, Option, Result}
-use Rattle.std.specs.Option.{option_map}
+use Rattle.std.specs.Prelude.{ℕ, List, codes}
 use Rattle.faults.specs.declared.Listing.{Listing}
-use Rattle.faults.specs.Listings.{listing, listing_text}
+use Rattle.faults.specs.Listings.{listing}
 use Rattle.load_shapes.specs.declared.fault.SourceFault.{SourceFault}
 use Rattle.load_shapes.specs.declared.fault.SourceFault.TheVariants.{TooShort, Periods, ZeroField, Misplaced, Entry, Row, PeriodsDiffer}
 
@@ -16,15 +15,6 @@ listed (Entry entry) = listing 9 entry
 listed (Row row) = listing 10 row
 listed PeriodsDiffer = listing 11 0
 
--- The fault in an answer, or none.
-abbrev pub fault_in : {T : Type 0} → Result T SourceFault → Option SourceFault
-fault_in (Ok x) = None
-fault_in (Err fault) = Some fault
-
--- The refusal in an answer, as it is listed, or none.
-abbrev pub refusal : {T : Type 0} → Result T SourceFault → Option Listing
-refusal r = option_map listed (fault_in r)
-
 -- What is wrong, in words.
 abbrev pub reason : SourceFault → List ℕ
 reason TooShort = codes "table under 16 bytes"
@@ -34,7 +24,3 @@ reason Misplaced = codes "index or rows misplaced"
 reason (Entry entry) = codes "entry out of range or order"
 reason (Row row) = codes "weight above 10,000"
 reason PeriodsDiffer = codes "sources with different periods of a day"
-
--- The text of a fault: what is wrong, and then number, layer and place.
-abbrev pub fault_text : SourceFault → List ℕ
-fault_text fault = reason fault ++ (codes " (" ++ (listing_text (listed fault) ++ codes ")"))

@@ -1,5 +1,6 @@
 -- What a load shape source is: its meaning, and the laws that every source shows.
-use Rattle.std.specs.Prelude.{◌≡◌, ℕ, ◌^◌, ◌<◌, ◌≤◌, Bool, cond, ◌||◌, ◌⊎◌, List, length, Some, None, Option, ◌==◌, nat_lt, slice_index}
+use Rattle.std.specs.Prelude.{◌≡◌, ℕ, ◌^◌, ◌<◌, ◌≤◌, Bool, if◌then◌else◌, ◌&&◌, ◌||◌, ◌⊎◌, List, length, Some, None, Option, ◌==◌, nat_lt, slice_index}
+use Rattle.load_shapes.specs.declared.day.CategoryDay.{CategoryDay}
 
 -- How the energy of one day is spread over its periods.
 pub record Shape : Type 0 where
@@ -13,7 +14,7 @@ pub record Meaning : Type 0 where
   -- the periods of a day
   pub periods : ℕ
   -- the shape of a category's day, or none
-  pub shape : ℕ → ℕ → Option Shape
+  pub shape : CategoryDay → Option Shape
 
 -- What a shape is, of a day of so many periods.
 pub record WellFormed (periods : ℕ) (s : Shape) : Type 0 where
@@ -29,10 +30,14 @@ pub record Laws (m : Meaning) : Type 0 where
   -- a day has 48 or 96 periods
   pub day_periods : (m.periods ≡ 48) ⊎ (m.periods ≡ 96)
   -- whatever shape there is is well-formed
-  pub well_formed : (category day : ℕ) (s : Shape) → m.shape category day ≡ Some s → WellFormed m.periods s
+  pub well_formed : (at : CategoryDay) (s : Shape) → m.shape at ≡ Some s → WellFormed m.periods s
   -- there is none beyond category 63 or day 399
-  pub no_category : (category day : ℕ) → 64 ≤ category → m.shape category day ≡ None
-  pub no_day : (category day : ℕ) → 400 ≤ day → m.shape category day ≡ None
+  pub no_category : (at : CategoryDay) → 64 ≤ at.category → m.shape at ≡ None
+  pub no_day : (at : CategoryDay) → 400 ≤ at.day → m.shape at ≡ None
+
+-- Whether a source may have a shape for a category's day.
+abbrev pub is_within_bounds : CategoryDay → Bool
+is_within_bounds at = nat_lt at.category 64 && nat_lt at.day 400
 
 -- Whether a day may have so many periods.
 abbrev pub may_have_periods : ℕ → Bool
@@ -46,4 +51,4 @@ count_of (Some s) = Some s.count
 -- The answer to the question for one period's weight: none where the day has no shape or not so many periods.
 abbrev pub weight_of : Option Shape → ℕ → Option ℕ
 weight_of None period = None
-weight_of (Some s) period = cond (nat_lt period (length s.weights)) (Some (slice_index s.weights period)) None
+weight_of (Some s) period = if nat_lt period (length s.weights) then Some (slice_index s.weights period) else None

@@ -3,7 +3,7 @@ ghost use Rattle.std.specs.Prelude.{◌≡◌};
 ghost use Rattle.load_shapes.specs.Layers.{de_minimis_meaning};
 ghost use Rattle.load_shapes.specs.LayerLaws.{de_minimis_lawful};
 
-use crate::day::DayShape;
+use crate::day::{CategoryDay, DayShape};
 use crate::source::Source;
 
 #[derive(Clone, Copy, Drop)]
@@ -43,26 +43,20 @@ impl<S: Source> Source for DeMinimis<S> {
         self.source.periods()
     }
 
-    fn count(&self, category: usize, day: usize) -> Option<u16> {
-        let count = self.source.count(category, day)?;
-        if count < self.threshold {
-            None
-        } else {
-            Some(count)
-        }
+    fn count(&self, at: CategoryDay) -> Option<u16> {
+        self.source
+            .count(at)
+            .filter(|count| *count >= self.threshold)
     }
 
-    fn weight(&self, category: usize, day: usize, period: usize) -> Option<u16> {
-        self.count(category, day)?;
-        self.source.weight(category, day, period)
+    fn weight(&self, at: CategoryDay, period: usize) -> Option<u16> {
+        self.count(at)?;
+        self.source.weight(at, period)
     }
 
-    fn shape(&self, category: usize, day: usize) -> Option<DayShape> {
-        let shape = self.source.shape(category, day)?;
-        if shape.count < self.threshold {
-            None
-        } else {
-            Some(shape)
-        }
+    fn shape(&self, at: CategoryDay) -> Option<DayShape> {
+        self.source
+            .shape(at)
+            .filter(|shape| shape.count >= self.threshold)
     }
 }

@@ -1,11 +1,14 @@
 // The even source: every period weighs the same.
 ghost use Rattle.std.specs.Prelude.{◌≡◌, true, IfOk};
 ghost use Rattle.std.specs.Option.{option_map};
+ghost use Rattle.std.specs.Result.{result_err};
+ghost use Rattle.faults.specs.Listings.{refusal};
 ghost use Rattle.load_shapes.specs.Meaning.{may_have_periods};
-ghost use Rattle.load_shapes.specs.Faults.{listed, fault_in, refusal};
+ghost use Rattle.load_shapes.specs.Faults.{listed};
 ghost use Rattle.load_shapes.specs.Even.{even_meaning, even_fault};
 ghost use Rattle.load_shapes.specs.EvenLaws.{even_lawful};
 
+use crate::day::CategoryDay;
 use crate::fault::SourceFault;
 use crate::source::Source;
 
@@ -18,8 +21,8 @@ pub struct EvenSource {
 impl EvenSource {
     // The even source of days with 48 or 96 periods.
     pub fn new(periods: usize) -> Result<EvenSource, SourceFault>
-        ensures fault { fault_in result ≡ even_fault periods }
-        ensures refusal { refusal result ≡ option_map listed (even_fault periods) }
+        ensures fault { result_err result ≡ even_fault periods }
+        ensures refusal { refusal listed result ≡ option_map listed (even_fault periods) }
         ensures made { IfOk result (λ s. s.periods ≡ periods) }
     {
         if periods == 48 || periods == 96 {
@@ -39,19 +42,11 @@ impl Source for EvenSource {
         self.periods
     }
 
-    fn count(&self, category: usize, day: usize) -> Option<u16> {
-        if category < 64 && day < 400 {
-            Some(65_535)
-        } else {
-            None
-        }
+    fn count(&self, at: CategoryDay) -> Option<u16> {
+        at.is_within_bounds().then_some(65_535)
     }
 
-    fn weight(&self, category: usize, day: usize, period: usize) -> Option<u16> {
-        if category < 64 && day < 400 && period < self.periods {
-            Some(1)
-        } else {
-            None
-        }
+    fn weight(&self, at: CategoryDay, period: usize) -> Option<u16> {
+        (at.is_within_bounds() && period < self.periods).then_some(1)
     }
 }

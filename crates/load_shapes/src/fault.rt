@@ -1,8 +1,10 @@
 // Why a source was not made, or the bytes of a table not taken for one.
 ghost use Rattle.std.specs.Prelude.{◌≡◌, Some};
-ghost use Rattle.load_shapes.specs.Faults.{listed, reason, fault_text};
+ghost use Rattle.faults.specs.Listings.{fault_text};
+ghost use Rattle.load_shapes.specs.Faults.{listed, reason};
 
-use faults::Listing;
+use faults::{Fault, Listing};
+use std::error::Error;
 use std::fmt;
 
 #[derive(Clone, Copy, PartialEq, Eq, Debug)]
@@ -23,11 +25,12 @@ pub enum SourceFault {
     PeriodsDiffer,
 }
 
-impl SourceFault {
-    // Number, layer and place of the fault.
-    pub fn listing(self) -> Listing
-        ensures { result ≡ listed self }
-    {
+impl Fault for SourceFault {
+    ghost listed = { listed };
+
+    ghost reason = { reason };
+
+    fn listing(self) -> Listing {
         match self {
             SourceFault::TooShort => Listing::new(6, 0),
             SourceFault::Periods | SourceFault::ZeroField => Listing::new(7, 0),
@@ -38,10 +41,7 @@ impl SourceFault {
         }
     }
 
-    // What is wrong, in words.
-    pub fn reason(self) -> &'static str
-        ensures { result.now ≡ reason self }
-    {
+    fn reason(self) -> &'static str {
         match self {
             SourceFault::TooShort => "table under 16 bytes",
             SourceFault::Periods => "periods of a day not 48 or 96",
@@ -55,11 +55,11 @@ impl SourceFault {
 }
 
 impl fmt::Display for SourceFault {
-    ghost output = { λ fault. Some (fault_text fault) };
+    ghost output = { λ fault. Some (fault_text (reason fault) (listed fault)) };
 
     fn fmt<W: fmt::Write>(&self, f: &mut fmt::Formatter<W>) -> fmt::Result {
-        let reason = self.reason();
-        let listing = self.listing();
-        write!(f, "{reason} ({listing})")
+        self.describe(f)
     }
 }
+
+impl Error for SourceFault {}

@@ -1,11 +1,13 @@
 // The substitute layer: a source and, where it has no shape, another.
 ghost use Rattle.std.specs.Prelude.{◌≡◌, true, false, MatchOption, ◌==◌};
 ghost use Rattle.std.specs.Option.{option_map};
-ghost use Rattle.load_shapes.specs.Faults.{listed, fault_in, refusal};
+ghost use Rattle.std.specs.Result.{result_err};
+ghost use Rattle.faults.specs.Listings.{refusal};
+ghost use Rattle.load_shapes.specs.Faults.{listed};
 ghost use Rattle.load_shapes.specs.Layers.{substitute_meaning, substitute_fault};
 ghost use Rattle.load_shapes.specs.LayerLaws.{substitute_lawful};
 
-use crate::day::DayShape;
+use crate::day::{CategoryDay, DayShape};
 use crate::fault::SourceFault;
 use crate::source::Source;
 
@@ -19,8 +21,8 @@ impl<S: Source, T: Source> Substitute<S, T> {
     // Whether the second source can stand in for the first. Ask before making the layer: a second source whose days
     // have other periods never does.
     pub fn check(first: &S, second: &T) -> Result<(), SourceFault>
-        ensures fault { fault_in result ≡ substitute_fault (S.Source.meaning first.now) (T.Source.meaning second.now) }
-        ensures refusal { refusal result ≡ option_map listed (substitute_fault (S.Source.meaning first.now) (T.Source.meaning second.now)) }
+        ensures fault { result_err result ≡ substitute_fault (S.Source.meaning first.now) (T.Source.meaning second.now) }
+        ensures refusal { refusal listed result ≡ option_map listed (substitute_fault (S.Source.meaning first.now) (T.Source.meaning second.now)) }
     {
         if first.periods() == second.periods() {
             Ok(())
@@ -70,24 +72,21 @@ impl<S: Source, T: Source> Source for Substitute<S, T> {
         self.first.periods()
     }
 
-    fn count(&self, category: usize, day: usize) -> Option<u16> {
-        match self.first.count(category, day) {
-            Some(count) => Some(count),
-            None => self.stand_in()?.count(category, day),
-        }
+    fn count(&self, at: CategoryDay) -> Option<u16> {
+        self.first
+            .count(at)
+            .or_else(|| self.stand_in()?.count(at))
     }
 
-    fn weight(&self, category: usize, day: usize, period: usize) -> Option<u16> {
-        match self.first.weight(category, day, period) {
-            Some(weight) => Some(weight),
-            None => self.stand_in()?.weight(category, day, period),
-        }
+    fn weight(&self, at: CategoryDay, period: usize) -> Option<u16> {
+        self.first
+            .weight(at, period)
+            .or_else(|| self.stand_in()?.weight(at, period))
     }
 
-    fn shape(&self, category: usize, day: usize) -> Option<DayShape> {
-        match self.first.shape(category, day) {
-            Some(shape) => Some(shape),
-            None => self.stand_in()?.shape(category, day),
-        }
+    fn shape(&self, at: CategoryDay) -> Option<DayShape> {
+        self.first
+            .shape(at)
+            .or_else(|| self.stand_in()?.shape(at))
     }
 }
