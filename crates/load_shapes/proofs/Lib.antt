@@ -1,2 +1,4 @@
-pub mod Filled
+pub mod Asked
+pub mod FromFn
 mod Bounds
+mod Chosen

@@ -3,6 +3,7 @@ use Rattle.std.specs.Prelude.{◌≡◌, ℕ, Bool, true, false, if◌then◌els
 use Rattle.std.specs.Option.{option_or}
 use Rattle.std.proofs.Common.{sym, ap, subst, inl, inr, ⊎_elim}
 use Rattle.std.proofs.lemmas.Bool.{eqb-true}
+use Rattle.load_shapes.specs.declared.day.CategoryDay.{CategoryDay}
 use Rattle.load_shapes.specs.Meaning.{Shape, Meaning, WellFormed, Laws}
 use Rattle.load_shapes.specs.Layers.{unless_under, de_minimis_meaning, standing_in, substitute_meaning}
 
@@ -33,6 +34,10 @@ stood_in : (b : Bool) (p q : ℕ) (o : Option Shape) (s : Shape) → (b ≡ true
 stood_in true p q o s same h e = let r : q ≡ p = sym (same refl) in subst (λ (n : ℕ). WellFormed n s) r (h e)
 stood_in false p q o s same h e = absurd (cc)
 
+pub standing_in_well_formed : (m n : Meaning) → Laws n → (at : CategoryDay) (s : Shape) → standing_in m n at ≡ Some s → WellFormed m.periods s
+standing_in_well_formed m n k at s =
+    stood_in (nat_eq m.periods n.periods) m.periods n.periods (n.shape at) s (eqb-true m.periods n.periods) (k.well_formed at s)
+
 both_none : (b : Bool) (x y : Option Shape) → x ≡ None → y ≡ None → option_or x (if b then y else None) ≡ None
 both_none true x y h k = rw (h, k)
 both_none false x y h k = rw h
@@ -45,7 +50,7 @@ substitute_lawful m n h k =
       well_formed = λ at s e.
           ⊎_elim
           (h.well_formed at s)
-          (stood_in same m.periods n.periods (n.shape at) s (eqb-true m.periods n.periods) (k.well_formed at s))
+          (standing_in_well_formed m n k at s)
           (one_of (m.shape at) (standing_in m n at) s e);
       no_category = λ at l. both_none same (m.shape at) (n.shape at) (h.no_category at l) (k.no_category at l);
       no_day = λ at l. both_none same (m.shape at) (n.shape at) (h.no_day at l) (k.no_day at l);

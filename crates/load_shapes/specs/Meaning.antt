@@ -1,5 +1,6 @@
 -- What a load shape source is: its meaning, and the laws that every source shows.
-use Rattle.std.specs.Prelude.{◌≡◌, ℕ, ◌^◌, ◌<◌, ◌≤◌, Bool, if◌then◌else◌, ◌&&◌, ◌||◌, ◌⊎◌, List, length, Some, None, Option, ◌==◌, nat_lt, slice_index}
+use Rattle.std.specs.Prelude.{◌≡◌, ℕ, ◌^◌, ◌<◌, ◌≤◌, Bool, ◌&&◌, ◌||◌, ◌⊎◌, List, length, Some, None, Option, option_and_then, ◌==◌, nat_lt, slice_get, slice_index}
+use Rattle.std.specs.Option.{option_map}
 use Rattle.load_shapes.specs.declared.day.CategoryDay.{CategoryDay}
 
 -- How the energy of one day is spread over its periods.
@@ -45,10 +46,8 @@ may_have_periods periods = periods == 48 || periods == 96
 
 -- The answer to the question for a day's data count.
 abbrev pub count_of : Option Shape → Option ℕ
-count_of None = None
-count_of (Some s) = Some s.count
+count_of shape = option_map (λ s. s.count) shape
 
 -- The answer to the question for one period's weight: none where the day has no shape or not so many periods.
 abbrev pub weight_of : Option Shape → ℕ → Option ℕ
-weight_of None period = None
-weight_of (Some s) period = if nat_lt period (length s.weights) then Some (slice_index s.weights period) else None
+weight_of shape period = option_and_then (λ s. slice_get s.weights period) shape

@@ -1,9 +1,11 @@
 -- Weights that follow a rule for each period.
-use Rattle.std.specs.Prelude.{◌≡◌, ℕ, ◌<◌, ◌≤◌, List, map, length, Some, None, slice_index}
-use Rattle.std.proofs.Common.{ap, ◌∙◌, ⊎_elim, zero-add, arith}
+use Rattle.std.specs.Prelude.{◌≡◌, ℕ, ◌<◌, ◌≤◌, List, map, length, Some, None, nat_lt, slice_index}
+use Rattle.std.proofs.Common.{sym, ap, ◌∙◌, ⊎_elim, zero-add, arith}
 use Rattle.std.proofs.lemmas.List.FromFn.{length-map-range_with_len, get_or-map-range_with_len}
 use Rattle.std.proofs.lemmas.List.{get_or_past}
-use Rattle.std.proofs.lemmas.Bool.{cases_lt, lt-ltb, le-ltb, cond-true, cond-false}
+use Rattle.std.proofs.lemmas.Option.{slice_get-get_or, slice_get_past}
+use Rattle.std.proofs.lemmas.Bool.{cases_lt, lt-ltb, le-ltb}
+use Rattle.std.specs.Bool.{then_some}
 use Rattle.std.specs.List.{range_with_len}
 use Rattle.load_shapes.specs.Meaning.{weight_of}
 
@@ -31,12 +33,17 @@ pub rule_told : (count : ℕ) (weigh : ℕ → ℕ) (periods period : ℕ) → p
     → weight_of (Some (record { count = count; weights = by_rule weigh periods })) period ≡ Some (weigh period)
 rule_told count weigh periods period l =
     let n = by_rule_each weigh periods in
-    let within : period < length (by_rule weigh periods) = omega arith in
-    cond-true _ (Some (slice_index (by_rule weigh periods) period)) None (lt-ltb period _ within) ∙ ap Some (by_rule_at weigh periods period l)
+    slice_get-get_or (by_rule weigh periods) period 0 (omega arith) ∙ ap Some (by_rule_at weigh periods period l)
 
 pub past_told : (count : ℕ) (weigh : ℕ → ℕ) (periods period : ℕ) → periods ≤ period
     → weight_of (Some (record { count = count; weights = by_rule weigh periods })) period ≡ None
-past_told count weigh periods period l =
-    let n = by_rule_each weigh periods in
-    let past : length (by_rule weigh periods) ≤ period = omega arith in
-    cond-false _ (Some (slice_index (by_rule weigh periods) period)) None (le-ltb period _ past)
+past_told count weigh periods period l = let n = by_rule_each weigh periods in slice_get_past (by_rule weigh periods) period (omega arith)
+
+-- Both at once.
+pub by_rule_told : (count : ℕ) (weigh : ℕ → ℕ) (periods period : ℕ)
+    → weight_of (Some (record { count = count; weights = by_rule weigh periods })) period ≡ then_some (nat_lt period periods) (weigh period)
+by_rule_told count weigh periods period =
+    ⊎_elim
+    (λ lt. rule_told count weigh periods period lt ∙ sym (ap (λ b. then_some b (weigh period)) (lt-ltb period periods lt)))
+    (λ ge. past_told count weigh periods period ge ∙ sym (ap (λ b. then_some b (weigh period)) (le-ltb period periods ge)))
+    (cases_lt period periods)

@@ -47,6 +47,7 @@ impl Source for EvenSource {
     }
 
     fn weight(&self, at: CategoryDay, period: usize) -> Option<u16> {
-        (at.is_within_bounds() && period < self.periods).then_some(1)
+        self.count(at)?;
+        (period < self.periods).then_some(1)
     }
 }

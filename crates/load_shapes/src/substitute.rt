@@ -73,20 +73,17 @@ impl<S: Source, T: Source> Source for Substitute<S, T> {
     }
 
     fn count(&self, at: CategoryDay) -> Option<u16> {
-        self.first
-            .count(at)
-            .or_else(|| self.stand_in()?.count(at))
+        let first = self.first.count(at);
+        first.or_else(|| self.stand_in()?.count(at))
     }
 
     fn weight(&self, at: CategoryDay, period: usize) -> Option<u16> {
-        self.first
-            .weight(at, period)
-            .or_else(|| self.stand_in()?.weight(at, period))
+        let first = self.first.weight(at, period);
+        first.or_else(|| self.stand_in()?.weight(at, period))
     }
 
     fn shape(&self, at: CategoryDay) -> Option<DayShape> {
-        self.first
-            .shape(at)
-            .or_else(|| self.stand_in()?.shape(at))
+        let first = self.first.shape(at);
+        first.or_else(|| self.stand_in()?.shape(at))
     }
 }
