@@ -36,9 +36,6 @@ module _ (size weight limit : ℕ) (keep : ℕ → ℕ) (most : (size - 1) * wei
   abbrev advanced : ℕ → ℕ → ℕ
   advanced from to = if nat_lt from size && nat_lt to size then steps size from to * weight else 0
 
-  given_told : (k : ℕ) → (nat_lt k size ≡ true) ↔ ((xs : List ℕ) × (one_number limit keep xs ≡ reading k))
-  given_told k = (λ h. (k ∷ [], grind (arith, nat_tests, shown k)), λ s. grind (arith, nat_tests, one_number_from limit keep s.0 k s.1, kept))
-
   triangle : (a b c : ℕ) → nat_lt a size ≡ true → nat_lt b size ≡ true → nat_lt c size ≡ true → advanced a c ≤ advanced a b + advanced b c
   triangle a b c ha hb hc =
       let t : steps size a c ≤ steps size a b + steps size b c = grind (arith, nat_tests) in
@@ -52,7 +49,7 @@ module _ (size weight limit : ℕ) (keep : ℕ → ℕ) (most : (size - 1) * wei
     few_dials = omega arith;
     length_told = one_number_length limit keep;
     dial_told = one_number_dial limit keep;
-    given_told = given_told;
+    given_told = λ k. (λ h. (k ∷ [], grind (arith, nat_tests, shown k)), λ s. grind (arith, nat_tests, one_number_from limit keep s.0 k s.1, kept));
     full_scale_most = most;
     advance_most = λ from to. grind (arith, nat_tests, steps_most, mul-le-mul_right {m = steps size from to} {n = size - 1} weight);
     no_advance = λ from to h. grind (arith, nat_tests);

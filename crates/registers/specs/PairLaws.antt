@@ -1,52 +1,35 @@
 -- A pair of two registers shows the laws where both registers do.
-use Rattle.std.specs.Prelude.{◌≡◌, ℕ, ◌+◌, ◌<◌, ◌≤◌, true, false, ◌&&◌, ◌↔◌, List, ◌++◌, length, take, drop, ◌≢◌, refl}
+use Rattle.std.specs.Prelude.{◌≡◌, ℕ, true, List, ◌++◌, length, take, drop, refl}
 use Rattle.std.proofs.Common.{arith, length-append, length-drop, length-take-le}
 use Rattle.std.proofs.Math.Seq.{take-append_seam, drop-append_seam}
 use Rattle.std.proofs.lemmas.Bool.{cases_eq, cond_both}
 use Rattle.std.proofs.lemmas.Bool.Decides.{nat_tests}
-use Rattle.registers.specs.Meaning.{Meaning, Laws, reading, wrong_length, too_large}
+use Rattle.registers.specs.Meaning.{Meaning, Laws, reading}
 use Rattle.registers.specs.Pairs.{may_pair, side_by_side, beyond_limits, pair_meaning}
 
 -- A list that is taken has one number for each dial.
 reading_length : {K : Type 0} (m : Meaning K) → Laws m → (xs : List ℕ) (k : K) → m.taken xs ≡ reading k → length xs ≡ m.dials
 reading_length m h xs k e = grind (arith, h.length_told xs, cases_eq)
 
+-- Two registers side by side show the laws where they may be read as one.
 module _ {K L : Type 0} (m : Meaning K) (n : Meaning L) (hm : Laws m) (hn : Laws n) where
-  length_told : (xs : List ℕ) → ((side_by_side m n).taken xs ≡ wrong_length) ↔ (length xs ≢ m.dials + n.dials)
-  length_told xs = grind (arith, nat_tests, hm.length_told (take m.dials xs), hn.length_told (drop m.dials xs), length-take-le m.dials xs, length-drop m.dials xs)
-
-  dial_told : (xs : List ℕ) (i : ℕ) → (side_by_side m n).taken xs ≡ too_large i → i < m.dials + n.dials
-  dial_told xs i e = grind (arith, nat_tests, hm.dial_told (take m.dials xs), hn.dial_told (drop m.dials xs))
-
-  gives : (xs : List ℕ) (k : K × L) → (side_by_side m n).taken xs ≡ reading k → (side_by_side m n).given k ≡ true
-  gives xs k e = grind (arith, nat_tests, hm.given_told k.0, hn.given_told k.1)
-
   given_by : (k : K × L) → (side_by_side m n).given k ≡ true → (xs : List ℕ) × ((side_by_side m n).taken xs ≡ reading k)
   given_by k h =
       let u = (hm.given_told k.0).0 (grind (arith, nat_tests)) in
       let v = (hn.given_told k.1).0 (grind (arith, nat_tests)) in
       (u.0 ++ v.0, grind (arith, nat_tests, reading_length m hm u.0 k.0, reading_length n hn v.0 k.1, length-append u.0 v.0, take-append_seam u.0 v.0, drop-append_seam u.0 v.0))
 
-  advance_most : (a b : K × L) → (side_by_side m n).advance a b ≤ m.full_scale + n.full_scale
-  advance_most a b = grind (arith, nat_tests, hm.advance_most a.0 b.0, hn.advance_most a.1 b.1)
-
-  no_advance : (a b : K × L) → ((side_by_side m n).given a && (side_by_side m n).given b) ≡ false → (side_by_side m n).advance a b ≡ 0
-  no_advance a b h = grind (arith, nat_tests)
-
-  triangle : (a b c : K × L) → (side_by_side m n).given a ≡ true → (side_by_side m n).given b ≡ true → (side_by_side m n).given c ≡ true → (side_by_side m n).advance a c ≤ (side_by_side m n).advance a b + (side_by_side m n).advance b c
-  triangle a b c ha hb hc = grind (arith, nat_tests, hm.triangle a.0 b.0 c.0, hn.triangle a.1 b.1 c.1)
-
   side_by_side_lawful : may_pair m n ≡ true → Laws (side_by_side m n)
   side_by_side_lawful f = record {
     some_dial = omega (arith, hm.some_dial);
     few_dials = grind (arith, nat_tests);
-    length_told = length_told;
-    dial_told = dial_told;
-    given_told = λ k. (given_by k, λ s. gives s.0 k s.1);
+    length_told = λ xs. grind (arith, nat_tests, hm.length_told (take m.dials xs), hn.length_told (drop m.dials xs), length-take-le m.dials xs, length-drop m.dials xs);
+    dial_told = λ xs dial e. grind (arith, nat_tests, hm.dial_told (take m.dials xs), hn.dial_told (drop m.dials xs));
+    given_told = λ k. (given_by k, λ s. grind (arith, nat_tests, hm.given_told k.0, hn.given_told k.1));
     full_scale_most = grind (arith, nat_tests);
-    advance_most = advance_most;
-    no_advance = no_advance;
-    triangle = triangle;
+    advance_most = λ a b. grind (arith, nat_tests, hm.advance_most a.0 b.0, hn.advance_most a.1 b.1);
+    no_advance = λ a b h. grind (arith, nat_tests);
+    triangle = λ a b c ha hb hc. grind (arith, nat_tests, hm.triangle a.0 b.0 c.0, hn.triangle a.1 b.1 c.1);
   }
 
 -- The one dial that is always at fault.
