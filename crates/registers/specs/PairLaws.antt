@@ -7,17 +7,13 @@ use Rattle.std.proofs.lemmas.Bool.Decides.{nat_tests}
 use Rattle.registers.specs.Meaning.{Meaning, Laws, reading}
 use Rattle.registers.specs.Pairs.{may_pair, side_by_side, beyond_limits, pair_meaning}
 
--- A list that is taken has one number for each dial.
-reading_length : {K : Type 0} (m : Meaning K) → Laws m → (xs : List ℕ) (k : K) → m.taken xs ≡ reading k → length xs ≡ m.dials
-reading_length m h xs k e = grind (arith, h.length_told xs, cases_eq)
-
 -- Two registers side by side show the laws where they may be read as one.
 module _ {K L : Type 0} (m : Meaning K) (n : Meaning L) (hm : Laws m) (hn : Laws n) where
   given_by : (k : K × L) → (side_by_side m n).given k ≡ true → (xs : List ℕ) × ((side_by_side m n).taken xs ≡ reading k)
   given_by k h =
       let u = (hm.given_told k.0).0 (grind (arith, nat_tests)) in
       let v = (hn.given_told k.1).0 (grind (arith, nat_tests)) in
-      (u.0 ++ v.0, grind (arith, nat_tests, reading_length m hm u.0 k.0, reading_length n hn v.0 k.1, length-append u.0 v.0, take-append_seam u.0 v.0, drop-append_seam u.0 v.0))
+      (u.0 ++ v.0, grind (arith, nat_tests, hm.length_told u.0, hn.length_told v.0, cases_eq (length u.0) m.dials, cases_eq (length v.0) n.dials, length-append u.0 v.0, take-append_seam u.0 v.0, drop-append_seam u.0 v.0))
 
   side_by_side_lawful : may_pair m n ≡ true → Laws (side_by_side m n)
   side_by_side_lawful f = record {
