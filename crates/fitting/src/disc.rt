@@ -1,7 +1,7 @@
 // A disc that shows codes. A maker's table says at how many Wh of the round each code stands. Meters of one make
 // share the table, so a disc borrows it.
 ghost use Rattle.std.specs.Prelude.{◌≡◌, false, is_some, Some, None, MatchResult};
-ghost use Rattle.fitting.specs.Disc.{off_round, disc_fault, disc_meaning, disc_lawful};
+ghost use Rattle.fitting.specs.Disc.{disc_fault, disc_meaning, disc_lawful};
 
 use crate::disc_fault::DiscFault;
 use registers::dial::one_number;
@@ -17,28 +17,16 @@ pub struct CodeDisc<'a> {
     ghost sound: { is_some (disc_fault round marks.now) ≡ false },
 }
 
-// The first code whose mark is not on the round.
-fn first_off_round(round: u64, marks: &[u64]) -> Option<DiscFault>
-    ensures { result ≡ off_round round 0 marks.now }
-{
-    for (code, mark) in marks.iter().enumerate() {
-        if *mark >= round {
-            return Some(DiscFault::Mark { code });
-        }
-    }
-    None
-}
-
 impl<'a> CodeDisc<'a> {
     // Whether a round and marks make a disc.
     pub fn check(round: u64, marks: &[u64]) -> Result<(), DiscFault>
         ensures { MatchResult result (λ _. disc_fault round marks.now ≡ None) (λ fault. disc_fault round marks.now ≡ Some fault) }
     {
-        if round < 1 || round > MOST {
+        if !(1..=MOST).contains(&round) {
             return Err(DiscFault::Round);
         }
-        match first_off_round(round, marks) {
-            Some(fault) => Err(fault),
+        match marks.iter().position(|mark| *mark >= round) {
+            Some(code) => Err(DiscFault::Mark { code }),
             None => Ok(()),
         }
     }
@@ -76,6 +64,7 @@ impl<'a> Register for CodeDisc<'a> {
         self.round - 1
     }
 
+    #[tactic(auto, using(crate::specs::Disc::round_limits, crate::specs::Disc::mark_below))]
     fn advance(&self, from: u64, to: u64) -> u64 {
         if !self.is_given(from) || !self.is_given(to) {
             return 0;

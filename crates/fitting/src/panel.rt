@@ -20,7 +20,7 @@ impl SealedPanel {
         ensures test { is_some result ≡ within 1 64 dials }
         ensures made { IfSome result (λ panel. panel.dials ≡ dials) }
     {
-        if 1 <= dials && dials <= 64 {
+        if (1..=64).contains(&dials) {
             Some(SealedPanel { dials })
         } else {
             None
@@ -30,14 +30,12 @@ impl SealedPanel {
 
 // The reading 0, or the first dial that does not show 0.
 fn take_zeros(numbers: &[u64]) -> Result<u64, RegisterFault>
-    ensures { result ≡ told (all_zero 0 numbers.now) }
+    ensures { result ≡ told (all_zero numbers.now) }
 {
-    for (dial, number) in numbers.iter().enumerate() {
-        if *number != 0 {
-            return Err(RegisterFault::NumberTooLarge { dial });
-        }
+    match numbers.iter().position(|number| *number != 0) {
+        Some(dial) => Err(RegisterFault::NumberTooLarge { dial }),
+        None => Ok(0),
     }
-    Ok(0)
 }
 
 impl Register for SealedPanel {

@@ -9,7 +9,7 @@ use std::io;
 
 fn main(rt: HostRuntime) -> io::Result<()> {
     match meter::make() {
-        Ok(meter) => month::print(rt, &meter),
+        Ok(meter) => month::print(&rt, &meter),
         Err(fault) => println!(rt; "no meter: {fault}"),
     }
 }

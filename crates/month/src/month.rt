@@ -1,7 +1,7 @@
 // The readings of a month, and what is printed of them.
 use crate::meter::Meter;
 use crate::progress;
-use crate::progress::Outcome;
+use crate::progress::{Advance, Outcome};
 use registers::register::Register;
 use std::io;
 
@@ -39,20 +39,20 @@ const READINGS: [DatedNumbers; 6] = [
     },
 ];
 
-fn print_outcome(rt: HostRuntime, reading: DatedNumbers, outcome: Outcome) -> io::Result<()> {
+fn print_outcome(rt: &impl Print, reading: DatedNumbers, outcome: Outcome) -> io::Result<()> {
     let DatedNumbers {
         day,
         numbers: [on_site, remote],
     } = reading;
     print!(rt; "day {day:2}: day dial {on_site:6}, night dial {remote:8}: ")?;
     match outcome {
-        Outcome::First => println!(rt; "the first reading"),
-        Outcome::Advanced { since, energy } => println!(rt; "{energy} Wh since day {since}"),
-        Outcome::Refused(fault) => println!(rt; "refused, {fault}"),
+        Ok(None) => println!(rt; "the first reading"),
+        Ok(Some(Advance { since, energy })) => println!(rt; "{energy} Wh since day {since}"),
+        Err(fault) => println!(rt; "refused, {fault}"),
     }
 }
 
-pub fn print(rt: HostRuntime, meter: &Meter) -> io::Result<()> {
+pub fn print(rt: &impl Print, meter: &Meter) -> io::Result<()> {
     let dials = meter.dials();
     let full_scale = meter.full_scale();
     println!(rt; "A meter of {dials} dials, full scale {full_scale} Wh")?;
@@ -61,7 +61,7 @@ pub fn print(rt: HostRuntime, meter: &Meter) -> io::Result<()> {
     for reading in READINGS {
         let outcome = progress::enter(&mut last, meter, reading.day, &reading.numbers);
         print_outcome(rt, reading, outcome)?;
-        energy += outcome.energy();
+        energy += progress::energy(outcome);
     }
     println!(rt; "{energy} Wh in the month")
 }

@@ -1,5 +1,5 @@
 // What the readings of a month tell, one after the other.
-ghost use Rattle.std.specs.Prelude.{◌≡◌, ◌^◌, ◌≤◌};
+ghost use Rattle.std.specs.Prelude.{◌≡◌, ◌^◌, ◌≤◌, Ok};
 ghost use Rattle.registers.specs.Faults.{told};
 ghost use Rattle.month.specs.Progress.{since_last, outcome, energy_of, last_after};
 
@@ -14,41 +14,38 @@ pub struct DatedReading<K> {
     pub kept: K,
 }
 
-// What came of the numbers of one midnight.
+// What a reading tells after an earlier one: the day of that one, and the energy since then in Wh.
 #[derive(Clone, Copy)]
-pub enum Outcome {
-    First,
-    Advanced { since: u32, energy: u64 },
-    Refused(RegisterFault),
+pub struct Advance {
+    pub since: u32,
+    pub energy: u64,
 }
+
+// What came of the numbers of one midnight: nothing yet at the first reading.
+pub type Outcome = Result<Option<Advance>, RegisterFault>;
 
 // What a reading tells after the last one: at most 10^15 Wh.
 fn compare<R: Register>(
     register: &R,
     last: Option<DatedReading<R::Reading>>,
     kept: R::Reading,
-) -> Outcome
+) -> Option<Advance>
     ensures value { result ≡ since_last (R.Register.meaning register.now) last kept }
-    ensures most { energy_of result ≤ 10 ^ 15 }
+    ensures most { energy_of (Ok result) ≤ 10 ^ 15 }
 {
-    match last {
-        Some(DatedReading { day, kept: before }) => Outcome::Advanced {
-            since: day,
-            energy: bounded::advance(register, before, kept),
-        },
-        None => Outcome::First,
-    }
+    last.map(|before| Advance {
+        since: before.day,
+        energy: bounded::advance(register, before.kept, kept),
+    })
 }
 
-impl Outcome {
-    // The energy that it adds, in Wh.
-    pub fn energy(self) -> u64
-        ensures { result ≡ energy_of self }
-    {
-        match self {
-            Outcome::Advanced { energy, .. } => energy,
-            Outcome::First | Outcome::Refused(_) => 0,
-        }
+// The energy that an outcome adds, in Wh.
+pub fn energy(outcome: Outcome) -> u64
+    ensures { result ≡ energy_of outcome }
+{
+    match outcome {
+        Ok(Some(advance)) => advance.energy,
+        Ok(None) | Err(_) => 0,
     }
 }
 
@@ -63,12 +60,8 @@ pub fn enter<R: Register>(
     ensures last { last.new ≡ last_after last.old day (told ((R.Register.meaning register.now).taken numbers.now)) }
     ensures most { energy_of result ≤ 10 ^ 15 }
 {
-    match register.take(numbers) {
-        Ok(kept) => {
-            let outcome = compare(register, *last, kept);
-            *last = Some(DatedReading { day, kept });
-            outcome
-        }
-        Err(fault) => Outcome::Refused(fault),
-    }
+    let kept = register.take(numbers)?;
+    let advance = compare(register, *last, kept);
+    *last = Some(DatedReading { day, kept });
+    Ok(advance)
 }

@@ -59,14 +59,14 @@ fn roundabout() -> Result<u64, RegisterFault>
     Ok(dial.advance(from, by) + dial.advance(by, to))
 }
 
-fn print_figure(rt: HostRuntime, name: &str, figure: Result<u64, RegisterFault>) -> io::Result<()> {
+fn print_figure(rt: &impl Print, name: &str, figure: Result<u64, RegisterFault>) -> io::Result<()> {
     match figure {
         Ok(number) => println!(rt; "  {name}: {number}"),
         Err(fault) => println!(rt; "  {name}: {fault}"),
     }
 }
 
-pub fn print_all(rt: HostRuntime) -> io::Result<()> {
+pub fn print_all(rt: &impl Print) -> io::Result<()> {
     print_figure(rt, "99,990 over 0 to 15, weight 1,000 Wh", over_zero())?;
     print_figure(rt, "beside 100 to 110 of the same make", side_by_side())?;
     print_figure(rt, "1,234,567 on five remote digits", from_afar())?;

@@ -10,11 +10,11 @@ use std::io;
 
 fn main(rt: HostRuntime) -> io::Result<()> {
     println!(rt; "Figures")?;
-    figures::print_all(rt)?;
+    figures::print_all(&rt)?;
     println!(rt; "Making dials")?;
-    makes::print_all(rt)?;
+    makes::print_all(&rt)?;
     println!(rt; "Taking readings")?;
-    readings::print_all(rt)?;
+    readings::print_all(&rt)?;
     println!(rt; "Pairs")?;
-    pairs::print_all(rt)
+    pairs::print_all(&rt)
 }

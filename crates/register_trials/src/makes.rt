@@ -1,30 +1,28 @@
 // Dials at the limits of their digits and weight.
 use registers::dial::Dial;
+use registers::fault::RegisterFault;
 use registers::register::Register;
 use registers::remote::RemoteDial;
 use std::io;
 
-fn print_dial(rt: HostRuntime, digits: u8, weight: u32) -> io::Result<()> {
-    match Dial::new(digits, weight) {
-        Ok(dial) => {
-            let full_scale = dial.full_scale();
-            println!(rt; "  {digits} digits, {weight} Wh: full scale {full_scale} Wh")
+// What these digits and this weight came to.
+fn print_made<R: Register + Copy>(
+    rt: &impl Print,
+    kind: &str,
+    digits: u8,
+    weight: u32,
+    made: Result<R, RegisterFault>,
+) -> io::Result<()> {
+    match made {
+        Ok(register) => {
+            let full_scale = register.full_scale();
+            println!(rt; "  {kind}{digits} digits, {weight} Wh: full scale {full_scale} Wh")
         }
-        Err(fault) => println!(rt; "  {digits} digits, {weight} Wh: {fault}"),
+        Err(fault) => println!(rt; "  {kind}{digits} digits, {weight} Wh: {fault}"),
     }
 }
 
-fn print_remote(rt: HostRuntime, digits: u8, weight: u32) -> io::Result<()> {
-    match RemoteDial::new(digits, weight) {
-        Ok(dial) => {
-            let full_scale = dial.full_scale();
-            println!(rt; "  remote, {digits} digits, {weight} Wh: full scale {full_scale} Wh")
-        }
-        Err(fault) => println!(rt; "  remote, {digits} digits, {weight} Wh: {fault}"),
-    }
-}
-
-pub fn print_all(rt: HostRuntime) -> io::Result<()> {
+pub fn print_all(rt: &impl Print) -> io::Result<()> {
     for (digits, weight) in [
         (0, 1),
         (1, 1),
@@ -34,8 +32,14 @@ pub fn print_all(rt: HostRuntime) -> io::Result<()> {
         (1, 1_000_001),
         (9, 0),
     ] {
-        print_dial(rt, digits, weight)?;
-        print_remote(rt, digits, weight)?;
+        print_made(rt, "", digits, weight, Dial::new(digits, weight))?;
+        print_made(
+            rt,
+            "remote, ",
+            digits,
+            weight,
+            RemoteDial::new(digits, weight),
+        )?;
     }
     Ok(())
 }

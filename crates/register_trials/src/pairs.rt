@@ -53,7 +53,7 @@ fn try_panels(dials: [usize; 4]) -> Option<Trial> {
     Some(trial)
 }
 
-fn print_trial(rt: HostRuntime, name: &str, trial: Trial) -> io::Result<()> {
+fn print_trial(rt: &impl Print, name: &str, trial: Trial) -> io::Result<()> {
     let dials = trial.dials;
     let full_scale = trial.full_scale;
     match trial.checked {
@@ -64,14 +64,14 @@ fn print_trial(rt: HostRuntime, name: &str, trial: Trial) -> io::Result<()> {
     }
 }
 
-fn print_panels(rt: HostRuntime, name: &str, dials: [usize; 4]) -> io::Result<()> {
+fn print_panels(rt: &impl Print, name: &str, dials: [usize; 4]) -> io::Result<()> {
     match try_panels(dials) {
         Some(trial) => print_trial(rt, name, trial),
         None => println!(rt; "  {name}: a panel has 1 to 64 dials"),
     }
 }
 
-fn print_counters(rt: HostRuntime, name: &str, last: u64, other: u64) -> io::Result<()> {
+fn print_counters(rt: &impl Print, name: &str, last: u64, other: u64) -> io::Result<()> {
     match try_counters(last, other) {
         Some(trial) => print_trial(rt, name, trial),
         None => println!(rt; "  {name}: a counter ends at 10^15 or before"),
@@ -86,7 +86,7 @@ fn try_numbers(numbers: &[u64]) -> Result<(u64, (u64, u64)), RegisterFault> {
     pair.take(numbers)
 }
 
-fn print_numbers(rt: HostRuntime, numbers: &[u64]) -> io::Result<()> {
+fn print_numbers(rt: &impl Print, numbers: &[u64]) -> io::Result<()> {
     match try_numbers(numbers) {
         Ok((a, (b, c))) => println!(rt; "  three dials take {numbers:?}: kept as {a}, {b} and {c}"),
         Err(fault) => println!(rt; "  three dials take {numbers:?}: {fault}"),
@@ -99,7 +99,7 @@ fn try_beyond(numbers: &[u64]) -> Option<Result<(u64, u64), RegisterFault>> {
     Some(pair.take(numbers))
 }
 
-fn print_beyond(rt: HostRuntime, numbers: &[u64]) -> io::Result<()> {
+fn print_beyond(rt: &impl Print, numbers: &[u64]) -> io::Result<()> {
     match try_beyond(numbers) {
         Some(Err(fault)) => println!(rt; "  beyond the limits, {numbers:?}: {fault}"),
         Some(Ok(_)) => println!(rt; "  beyond the limits, {numbers:?}: taken"),
@@ -107,7 +107,7 @@ fn print_beyond(rt: HostRuntime, numbers: &[u64]) -> io::Result<()> {
     }
 }
 
-pub fn print_all(rt: HostRuntime) -> io::Result<()> {
+pub fn print_all(rt: &impl Print) -> io::Result<()> {
     print_panels(rt, "64 dials in four panels", [16, 16, 16, 16])?;
     print_panels(rt, "65 dials in four panels", [16, 16, 16, 17])?;
     let half = 500_000_000_000_000;

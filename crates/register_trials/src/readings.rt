@@ -8,7 +8,7 @@ use registers::remote::RemoteDial;
 use std::io;
 
 fn print_taken<R: Register<Reading = u64>>(
-    rt: HostRuntime,
+    rt: &impl Print,
     name: &str,
     register: &R,
     numbers: &[u64],
@@ -20,7 +20,7 @@ fn print_taken<R: Register<Reading = u64>>(
 }
 
 // A dial of three digits, and the numbers around its edge.
-fn print_dial(rt: HostRuntime, dial: &Dial) -> io::Result<()> {
+fn print_dial(rt: &impl Print, dial: &Dial) -> io::Result<()> {
     print_taken(rt, "dial", dial, &[])?;
     print_taken(rt, "dial", dial, &[1, 2])?;
     print_taken(rt, "dial", dial, &[0])?;
@@ -30,7 +30,7 @@ fn print_dial(rt: HostRuntime, dial: &Dial) -> io::Result<()> {
 }
 
 // The same from afar.
-fn print_remote(rt: HostRuntime, remote: &RemoteDial) -> io::Result<()> {
+fn print_remote(rt: &impl Print, remote: &RemoteDial) -> io::Result<()> {
     print_taken(rt, "remote dial", remote, &[])?;
     print_taken(rt, "remote dial", remote, &[1, 2])?;
     print_taken(rt, "remote dial", remote, &[1_000])?;
@@ -41,7 +41,7 @@ fn print_remote(rt: HostRuntime, remote: &RemoteDial) -> io::Result<()> {
 
 // What a register keeps that no list gives has no advance.
 fn print_advance<R: Register<Reading = u64>>(
-    rt: HostRuntime,
+    rt: &impl Print,
     name: &str,
     register: &R,
     from: u64,
@@ -60,7 +60,7 @@ fn try_counter(last: u64) -> Option<(Result<u64, RegisterFault>, u64)> {
     Some((taken, advance))
 }
 
-fn print_counter(rt: HostRuntime, last: u64) -> io::Result<()> {
+fn print_counter(rt: &impl Print, last: u64) -> io::Result<()> {
     match try_counter(last) {
         Some((Ok(kept), advance)) => {
             println!(rt; "  counter to {last}: keeps {kept}, and {advance} Wh on to 0")
@@ -70,7 +70,7 @@ fn print_counter(rt: HostRuntime, last: u64) -> io::Result<()> {
     }
 }
 
-fn print_disc(rt: HostRuntime, round: u64, marks: &[u64]) -> io::Result<()> {
+fn print_disc(rt: &impl Print, round: u64, marks: &[u64]) -> io::Result<()> {
     match CodeDisc::check(round, marks) {
         Ok(()) => {
             let disc = CodeDisc::new(round, marks);
@@ -81,25 +81,26 @@ fn print_disc(rt: HostRuntime, round: u64, marks: &[u64]) -> io::Result<()> {
     }
 }
 
-fn print_dials(rt: HostRuntime) -> Result<io::Result<()>, RegisterFault> {
-    let dial = Dial::new(3, 1)?;
-    let remote = RemoteDial::new(3, 1)?;
-    Ok(print_both(rt, &dial, &remote))
+// Both dials of three digits.
+fn make_dials() -> Result<(Dial, RemoteDial), RegisterFault> {
+    Ok((Dial::new(3, 1)?, RemoteDial::new(3, 1)?))
 }
 
-fn print_both(rt: HostRuntime, dial: &Dial, remote: &RemoteDial) -> io::Result<()> {
-    print_dial(rt, dial)?;
-    print_remote(rt, remote)?;
-    print_advance(rt, "dial", dial, 999, 0)?;
-    print_advance(rt, "dial", dial, 1_000, 0)?;
-    print_advance(rt, "remote dial", remote, 0, 1_000)
-}
-
-pub fn print_all(rt: HostRuntime) -> io::Result<()> {
-    match print_dials(rt) {
-        Ok(printed) => printed?,
-        Err(fault) => println!(rt; "  {fault}")?,
+fn print_dials(rt: &impl Print) -> io::Result<()> {
+    match make_dials() {
+        Ok((dial, remote)) => {
+            print_dial(rt, &dial)?;
+            print_remote(rt, &remote)?;
+            print_advance(rt, "dial", &dial, 999, 0)?;
+            print_advance(rt, "dial", &dial, 1_000, 0)?;
+            print_advance(rt, "remote dial", &remote, 0, 1_000)
+        }
+        Err(fault) => println!(rt; "  {fault}"),
     }
+}
+
+pub fn print_all(rt: &impl Print) -> io::Result<()> {
+    print_dials(rt)?;
     print_counter(rt, 1_000_000_000_000_000)?;
     print_counter(rt, 1_000_000_000_000_001)?;
     print_disc(rt, 900, &[0, 250, 500, 750])?;

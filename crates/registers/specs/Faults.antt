@@ -1,7 +1,7 @@
 -- The faults of a register, by number, layer and place, and what each call answers.
-use Rattle.std.specs.Prelude.{ℕ, ◌+◌, List, ◌++◌, Some, None, Ok, Err, codes, Option, Result}
+use Rattle.std.specs.Prelude.{ℕ, ◌+◌, List, Ok, Err, codes, Result}
 use Rattle.faults.specs.declared.Listing.{Listing}
-use Rattle.faults.specs.Listings.{listing, listing_text}
+use Rattle.faults.specs.Listings.{listing}
 use Rattle.registers.specs.declared.fault.RegisterFault.{RegisterFault}
 use Rattle.registers.specs.declared.fault.RegisterFault.TheVariants.{Digits, Weight, PairBeyondLimits, WrongCount, NumberTooLarge}
 use Rattle.registers.specs.Meaning.{Taken, reading, wrong_length, too_large}
@@ -13,11 +13,6 @@ listed Weight = listing 2 0
 listed PairBeyondLimits = listing 3 0
 listed WrongCount = listing 4 0
 listed (NumberTooLarge dial) = listing 5 dial
-
--- The refusal in an answer, as it is listed, or none.
-abbrev pub refusal : {T : Type 0} → Result T RegisterFault → Option Listing
-refusal (Ok x) = None
-refusal (Err fault) = Some (listed fault)
 
 -- The answer to a list of numbers: the kept reading, or fault 4, or fault 5 with the dial.
 abbrev pub told : {K : Type 0} → Taken K → Result K RegisterFault
@@ -40,7 +35,3 @@ reason Weight = codes "weight not 1 to 1,000,000 Wh"
 reason PairBeyondLimits = codes "pair beyond 64 dials or 10^15 Wh"
 reason WrongCount = codes "wrong count of numbers"
 reason (NumberTooLarge dial) = codes "number too large for its dial"
-
--- The text of a fault: what is wrong, and then number, layer and place.
-abbrev pub fault_text : RegisterFault → List ℕ
-fault_text fault = reason fault ++ (codes " (" ++ (listing_text (listed fault) ++ codes ")"))

@@ -1,6 +1,5 @@
 pub mod Meaning
 pub mod Faults
-pub mod Apart
 pub mod Dials
 pub mod DialLaws
 pub mod Pairs

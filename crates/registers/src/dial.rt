@@ -1,23 +1,12 @@
 // A dial: one number of a few digits, each step worth a weight of Wh, that turns over to 0.
 ghost use Rattle.std.specs.Prelude.{◌≡◌, ◌^◌, ◌≤◌, IfOk};
-ghost use Rattle.registers.specs.Faults.{refusal, told};
+ghost use Rattle.faults.specs.Listings.{refusal};
+ghost use Rattle.registers.specs.Faults.{listed, told};
 ghost use Rattle.registers.specs.Dials.{one_number, dial_refusal, dial_meaning};
 ghost use Rattle.registers.specs.DialLaws.{dial_lawful};
 
 use crate::fault::RegisterFault;
 use crate::register::Register;
-
-const POWERS_OF_TEN: [u64; 9] = [
-    1,
-    10,
-    100,
-    1_000,
-    10_000,
-    100_000,
-    1_000_000,
-    10_000_000,
-    100_000_000,
-];
 
 #[derive(Clone, Copy)]
 pub struct Dial {
@@ -34,13 +23,8 @@ pub fn one_number(numbers: &[u64], limit: u64) -> Result<u64, RegisterFault>
     ensures { result ≡ told (one_number limit (λ x. x) numbers.now) }
 {
     match numbers {
-        [number] => {
-            if *number < limit {
-                Ok(*number)
-            } else {
-                Err(RegisterFault::NumberTooLarge { dial: 0 })
-            }
-        }
+        [number] if *number < limit => Ok(*number),
+        [_] => Err(RegisterFault::NumberTooLarge { dial: 0 }),
         _ => Err(RegisterFault::WrongCount),
     }
 }
@@ -48,25 +32,26 @@ pub fn one_number(numbers: &[u64], limit: u64) -> Result<u64, RegisterFault>
 impl Dial {
     // A dial of 1 to 8 digits and a weight of 1 to 1,000,000 Wh.
     pub fn new(digits: u8, weight: u32) -> Result<Dial, RegisterFault>
-        ensures refusal { refusal result ≡ dial_refusal digits weight }
+        ensures refusal { refusal listed result ≡ dial_refusal digits weight }
         ensures made { IfOk result (λ d. (d.digits ≡ digits) × (d.weight ≡ weight)) }
     {
-        if digits < 1 || digits > 8 {
+        if !(1..=8).contains(&digits) {
             return Err(RegisterFault::Digits);
         }
-        if weight < 1 || weight > 1_000_000 {
+        if !(1..=1_000_000).contains(&weight) {
             return Err(RegisterFault::Weight);
         }
         Ok(Dial { digits, weight })
     }
 
     // How many numbers the dial shows: 0 and up to one less.
+    #[tactic(auto, using(crate::specs::DialLaws::size_least, crate::specs::DialLaws::size_most))]
     pub(crate) fn size(&self) -> u64
         ensures value { result ≡ 10 ^ self.now.digits }
         ensures least { 1 ≤ result }
         ensures most { result ≤ 100000000 }
     {
-        POWERS_OF_TEN[self.digits as usize]
+        10_u64.pow(u32::from(self.digits))
     }
 }
 
@@ -90,7 +75,7 @@ impl Register for Dial {
     }
 
     fn full_scale(&self) -> u64 {
-        (self.size() - 1) * self.weight as u64
+        (self.size() - 1) * u64::from(self.weight)
     }
 
     fn advance(&self, from: u64, to: u64) -> u64 {
@@ -103,6 +88,6 @@ impl Register for Dial {
         } else {
             to - from
         };
-        steps * self.weight as u64
+        steps * u64::from(self.weight)
     }
 }

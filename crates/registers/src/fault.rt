@@ -1,8 +1,10 @@
 // Why a register was not made, or a list of numbers not taken.
-ghost use Rattle.std.specs.Prelude.{◌≡◌, Some};
-ghost use Rattle.registers.specs.Faults.{listed, reason, fault_text};
+ghost use Rattle.std.specs.Prelude.{◌≡◌, ◌≤◌, ◌<◌, Some};
+ghost use Rattle.faults.specs.Listings.{fault_text};
+ghost use Rattle.registers.specs.Faults.{listed, reason, counted_on};
 
-use faults::Listing;
+use faults::{Fault, Listing};
+use std::error::Error;
 use std::fmt;
 
 #[derive(Clone, Copy, PartialEq, Eq, Debug)]
@@ -20,10 +22,27 @@ pub enum RegisterFault {
 }
 
 impl RegisterFault {
-    // Number, layer and place of the fault.
-    pub fn listing(self) -> Listing
-        ensures { result ≡ listed self }
+    // The fault of a register whose dials stand after so many others.
+    pub(crate) fn counted_on(self, dials: usize) -> RegisterFault
+        requires dials { dials ≤ 64 }
+        requires place { (listed self).place < 64 }
+        ensures { result ≡ counted_on dials self }
     {
+        match self {
+            RegisterFault::NumberTooLarge { dial } => RegisterFault::NumberTooLarge {
+                dial: dials + dial,
+            },
+            other => other,
+        }
+    }
+}
+
+impl Fault for RegisterFault {
+    ghost listed = { listed };
+
+    ghost reason = { reason };
+
+    fn listing(self) -> Listing {
         match self {
             RegisterFault::Digits => Listing::new(1, 0),
             RegisterFault::Weight => Listing::new(2, 0),
@@ -33,10 +52,7 @@ impl RegisterFault {
         }
     }
 
-    // What is wrong, in words.
-    pub fn reason(self) -> &'static str
-        ensures { result.now ≡ reason self }
-    {
+    fn reason(self) -> &'static str {
         match self {
             RegisterFault::Digits => "digits not 1 to 8",
             RegisterFault::Weight => "weight not 1 to 1,000,000 Wh",
@@ -48,11 +64,11 @@ impl RegisterFault {
 }
 
 impl fmt::Display for RegisterFault {
-    ghost output = { λ fault. Some (fault_text fault) };
+    ghost output = { λ fault. Some (fault_text (reason fault) (listed fault)) };
 
     fn fmt<W: fmt::Write>(&self, f: &mut fmt::Formatter<W>) -> fmt::Result {
-        let reason = self.reason();
-        let listing = self.listing();
-        write!(f, "{reason} ({listing})")
+        self.describe(f)
     }
 }
+
+impl Error for RegisterFault {}

@@ -1,6 +1,7 @@
 // Two registers that are read as one.
-ghost use Rattle.std.specs.Prelude.{◌≡◌, ◌<◌, ◌≤◌};
-ghost use Rattle.registers.specs.Faults.{listed, refusal, counted_on};
+ghost use Rattle.std.specs.Prelude.{◌≡◌};
+ghost use Rattle.faults.specs.Listings.{refusal};
+ghost use Rattle.registers.specs.Faults.{listed};
 ghost use Rattle.registers.specs.Pairs.{joint_extent, pair_refusal, pair_meaning};
 ghost use Rattle.registers.specs.PairLaws.{pair_lawful};
 
@@ -33,28 +34,13 @@ fn join<A: Register, B: Register>(first: &A, second: &B) -> Option<Extent>
     }
 }
 
-// A fault of a register whose dials stand after so many others.
-fn count_on(dials: usize, fault: RegisterFault) -> RegisterFault
-    requires { (dials ≤ 64) × ((listed fault).place < 64) }
-    ensures { result ≡ counted_on dials fault }
-{
-    match fault {
-        RegisterFault::NumberTooLarge { dial } => RegisterFault::NumberTooLarge {
-            dial: dials + dial,
-        },
-        other => other,
-    }
-}
-
 impl<A: Register, B: Register> Pair<A, B> {
     // Whether two registers make a pair. Ask before making one: a pair beyond the limits takes no reading.
     pub fn check(first: &A, second: &B) -> Result<(), RegisterFault>
-        ensures { refusal result ≡ pair_refusal (A.Register.meaning first.now) (B.Register.meaning second.now) }
+        ensures { refusal listed result ≡ pair_refusal (A.Register.meaning first.now) (B.Register.meaning second.now) }
     {
-        match join(first, second) {
-            Some(_) => Ok(()),
-            None => Err(RegisterFault::PairBeyondLimits),
-        }
+        join(first, second).ok_or(RegisterFault::PairBeyondLimits)?;
+        Ok(())
     }
 
     // The pair of any two registers. Beyond the limits it is one dial that is always at fault.
@@ -95,11 +81,10 @@ impl<A: Register, B: Register> Register for Pair<A, B> {
             return Err(RegisterFault::NumberTooLarge { dial: 0 });
         }
         let dials = bounded::extent(&self.first).dials;
-        let first = self.first.take(&numbers[0..dials])?;
-        match bounded::take(&self.second, &numbers[dials..]) {
-            Ok(second) => Ok((first, second)),
-            Err(fault) => Err(count_on(dials, fault)),
-        }
+        let (front, back) = numbers.split_at(dials);
+        let first = self.first.take(front)?;
+        let second = bounded::take(&self.second, back).map_err(|fault| fault.counted_on(dials))?;
+        Ok((first, second))
     }
 
     fn is_given(&self, reading: (A::Reading, B::Reading)) -> bool {
@@ -114,13 +99,10 @@ impl<A: Register, B: Register> Register for Pair<A, B> {
 
     // Asked of each register once, so that pairs of pairs cost no more than their registers.
     fn extent(&self) -> Extent {
-        match join(&self.first, &self.second) {
-            Some(extent) => extent,
-            None => Extent {
-                dials: 1,
-                full_scale: 0,
-            },
-        }
+        join(&self.first, &self.second).unwrap_or(Extent {
+            dials: 1,
+            full_scale: 0,
+        })
     }
 
     fn advance(&self, from: (A::Reading, B::Reading), to: (A::Reading, B::Reading)) -> u64 {

@@ -1,6 +1,7 @@
 // A dial that is read from afar: its number may come with leading digits that the dial does not show.
 ghost use Rattle.std.specs.Prelude.{◌≡◌, IfOk};
-ghost use Rattle.registers.specs.Faults.{refusal};
+ghost use Rattle.faults.specs.Listings.{refusal};
+ghost use Rattle.registers.specs.Faults.{listed};
 ghost use Rattle.registers.specs.Dials.{dial_refusal, remote_meaning};
 ghost use Rattle.registers.specs.DialLaws.{remote_lawful};
 
@@ -19,7 +20,7 @@ pub struct RemoteDial {
 impl RemoteDial {
     // A remote dial of 1 to 8 digits and a weight of 1 to 1,000,000 Wh.
     pub fn new(digits: u8, weight: u32) -> Result<RemoteDial, RegisterFault>
-        ensures refusal { refusal result ≡ dial_refusal digits weight }
+        ensures refusal { refusal listed result ≡ dial_refusal digits weight }
         ensures made { IfOk result (λ d. (d.dial.digits ≡ digits) × (d.dial.weight ≡ weight)) }
     {
         Ok(RemoteDial {

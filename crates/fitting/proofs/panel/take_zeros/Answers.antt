@@ -1,24 +1,11 @@
--- A 0 is passed over, the first other number is told, and where none is left all are 0.
-use Rattle.std.proofs.Common.{eqb, get_or, sym, ap, ◌∙◌}
-use Rattle.std.proofs.lemmas.List.{at_drop_more, at_drop_all}
-use Rattle.std.proofs.lemmas.Bool.{eq-eqb, ne_eqb, cond-true, cond-false}
-use Rattle.registers.specs.Faults.{told}
-use Rattle.fitting.specs.Panel.{all_zero}
+-- The numbers are gone through in order, so what is found is the first that is not 0.
+use Rattle.std.proofs.Common.{◌==◌, arith, not, rules, tests}
+use Rattle.std.proofs.lemmas.Iterator.{YieldsList-from_slice}
+use Rattle.std.proofs.lemmas.Iterator.Search.{position_from_yields_List}
 use Rattle.fitting.proofs.panel.take_zeros.Goals as goal
 
-pub returns-then-number-ne0 : goal.returns-then-number-ne0
-returns-then-number-ne0 c =
-    let numbers = c.args.numbers.now in
-    let i = c.loop-dial.dial in
-    sym (ap told (sym c.loop-dial.invariant ∙ at_drop_more (all_zero i) numbers i 0 c.loop-dial-test.true ∙ cond-false (eqb (get_or numbers i 0) 0) _ _ (ne_eqb (get_or numbers i 0) 0 c.if-number-ne0.true)))
+pub returns-in-Some : goal.returns-in-Some
+returns-in-Some c = grind (arith, position_from_yields_List (λ x. not (x == 0)) _ _ c.position.result c.position.ensures.ran (YieldsList-from_slice c.args.numbers.now (cc)) (λ x b q k. search (rules, tests)))
 
-pub loop-dial-preserved : goal.loop-dial-preserved
-loop-dial-preserved c =
-    let numbers = c.args.numbers.now in
-    let i = c.loop-dial.dial in
-    sym (at_drop_more (all_zero i) numbers i 0 c.loop-dial-test.true ∙ cond-true (eqb (get_or numbers i 0) 0) _ _ (eq-eqb (get_or numbers i 0) 0 c.if-number-ne0.false)) ∙ c.loop-dial.invariant
-
-pub returns : goal.returns
-returns c =
-    let i = c.loop-dial.dial in
-    sym (ap told (sym c.loop-dial.invariant ∙ at_drop_all (all_zero i) c.args.numbers.now i c.loop-dial-test.false))
+pub returns-in-None : goal.returns-in-None
+returns-in-None c = grind (arith, position_from_yields_List (λ x. not (x == 0)) _ _ c.position.result c.position.ensures.ran (YieldsList-from_slice c.args.numbers.now (cc)) (λ x b q k. search (rules, tests)))
