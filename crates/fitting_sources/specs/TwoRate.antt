@@ -1,5 +1,5 @@
 -- A two-rate source: the half hours of the night weigh one number, those of the day another.
-use Rattle.std.specs.Prelude.{ℕ, ◌≤◌, cond, nat_lt, refl}
+use Rattle.std.specs.Prelude.{ℕ, ◌≤◌, if◌then◌else◌, nat_lt, refl}
 use Rattle.std.proofs.Common.{lit<}
 use Rattle.std.proofs.lemmas.Bool.{cond_both}
 use Rattle.load_shapes.specs.Meaning.{Meaning, Laws}
@@ -9,7 +9,7 @@ use Rattle.load_shapes.specs.EvenLaws.{everywhere_lawful}
 
 -- The night ends at seven in the morning, after fourteen half hours.
 abbrev pub rate : ℕ → ℕ → ℕ → ℕ
-rate night day period = cond (nat_lt period 14) night day
+rate night day period = if nat_lt period 14 then night else day
 
 -- Every category's day has the two rates, with a count of 1.
 abbrev pub two_rate_meaning : ℕ → ℕ → Meaning
