@@ -1,7 +1,7 @@
 -- A two-rate source: the half hours of the night weigh one number, those of the day another.
 use Rattle.std.specs.Prelude.{ℕ, ◌≤◌, if◌then◌else◌, nat_lt, refl}
-use Rattle.std.proofs.Common.{lit<}
-use Rattle.std.proofs.lemmas.Bool.{cond_both}
+use Rattle.std.proofs.Common.{lit<, arith}
+use Rattle.std.proofs.lemmas.Bool.Decides.{nat_tests}
 use Rattle.load_shapes.specs.Meaning.{Meaning, Laws}
 use Rattle.load_shapes.specs.Weights.{by_rule, by_rule_each, by_rule_most}
 use Rattle.load_shapes.specs.Even.{everywhere}
@@ -16,7 +16,7 @@ abbrev pub two_rate_meaning : ℕ → ℕ → Meaning
 two_rate_meaning night day = everywhere 48 (record { count = 1; weights = by_rule (rate night day) 48 })
 
 rate_most : (night day : ℕ) → night ≤ 10000 → day ≤ 10000 → (period : ℕ) → rate night day period ≤ 10000
-rate_most night day n d period = cond_both (nat_lt period 14) night day (λ w. w ≤ 10000) (λ _. n) (λ _. d)
+rate_most night day n d period = grind (arith, nat_tests)
 
 -- It shows the laws where both weights are at most 10,000.
 pub two_rate_lawful : (night day : ℕ) → night ≤ 10000 → day ≤ 10000 → Laws (two_rate_meaning night day)
