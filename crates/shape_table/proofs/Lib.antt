@@ -1,5 +1,4 @@
-mod Bounds
-mod Scans
-mod Octets
-mod Search
-mod Weights
+pub mod Copies
+pub mod Read
+pub mod Search
+pub mod Octets

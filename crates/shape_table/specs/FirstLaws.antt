@@ -1,73 +1,86 @@
 -- What the first place that passes a test says of each place.
-use Rattle.std.specs.Prelude.{◌≡◌, ℕ, zero, suc, ◌<◌, Bool, true, false, cond, ◌⊎◌, Some, None, Option, refl}
-use Rattle.std.proofs.Common.{sym, ap, ◌∙◌, inl, inr, ⊎_elim, arith}
-use Rattle.std.proofs.lemmas.Bool.{cases_lt, and_parts}
-use Rattle.load_shapes.specs.Layers.{first_of}
+use Rattle.std.specs.Prelude.{◌≡◌, ℕ, ◌<◌, ◌≤◌, Bool, true, false, Some, None, Option, slice_index, refl}
+use Rattle.std.specs.List.{range_with_len, position_or_len}
+use Rattle.std.specs.Option.{option_or}
+use Rattle.std.proofs.Common.{sym, ap, ◌∙◌, ⊎_elim, zero-add, arith}
+use Rattle.std.proofs.lemmas.Bool.{cases_lt, cases_Bool, both_ways}
+use Rattle.std.proofs.lemmas.List.FromFn.{length-range_with_len, get_or-range_with_len}
+use Rattle.std.proofs.lemmas.List.Folds.{find_at, list_all_at}
+use Rattle.std.proofs.lemmas.List.Sums.{position_or_len_is, fails_before_first, passes_at_first}
+use Rattle.std.proofs.lemmas.Option.{slice_get-get_or, slice_get_past}
 use Rattle.shape_table.specs.First.{first_that, each_below}
 
-pub first_none : {X : Type 0} (x y : Option X) → first_of x y ≡ None → (x ≡ None) × (y ≡ None)
+pub first_none : {X : Type 0} (x y : Option X) → option_or x y ≡ None → (x ≡ None) × (y ≡ None)
 first_none None y e = (refl, e)
 first_none (Some x) y e = absurd (cc)
 
-here_none : (b : Bool) (n : ℕ) → cond b (Some n) None ≡ None → b ≡ false
-here_none true n e = absurd (cc)
-here_none false n e = refl
+-- Place k of the numbers below a limit holds k.
+place : (n k : ℕ) → k < n → slice_index (range_with_len 0 n) k ≡ k
+place n k l = get_or-range_with_len 0 n k 0 l ∙ zero-add k
 
-here_some : (b : Bool) (n k : ℕ) → cond b (Some n) None ≡ Some k → (n ≡ k) × (b ≡ true)
-here_some true n k e = (cc, refl)
-here_some false n k e = absurd (cc)
+-- Where the first that passes would stand: at it, or past all.
+module _ (test : ℕ → Bool) (n : ℕ) where
+  first_place : ℕ
+  first_place = position_or_len test (range_with_len 0 n)
 
-either_some : (x y : Option ℕ) (k : ℕ) → first_of x y ≡ Some k → (x ≡ Some k) ⊎ ((x ≡ None) × (y ≡ Some k))
-either_some None y k e = inr (refl, e)
-either_some (Some x) y k e = inl e
+  at_first : first_place < n → first_that test n ≡ Some first_place
+  unfolding first_place
+  at_first l =
+      let size = length-range_with_len 0 n in
+      find_at test (range_with_len 0 n)
+      ∙ slice_get-get_or (range_with_len 0 n) first_place 0 (omega arith)
+      ∙ ap Some (place n first_place l)
 
--- Where there is no first, none passes.
-pub none_that : (test : ℕ → Bool) (n : ℕ) → first_that test n ≡ None → (k : ℕ) → k < n → test k ≡ false
-none_that test zero e k l = absurd (let z : ⊥ = omega arith in z)
-none_that test (suc n) e k l =
-    let p = first_none (first_that test n) (cond (test n) (Some n) None) e in
-    ⊎_elim
-    (λ lt. none_that test n p.0 k lt)
-    (λ ge. let q : k ≡ n = omega arith in ap test q ∙ here_none (test n) n p.1)
-    (cases_lt k n)
+  past_all : n ≤ first_place → first_that test n ≡ None
+  unfolding first_place
+  past_all l =
+      let size = length-range_with_len 0 n in
+      find_at test (range_with_len 0 n) ∙ slice_get_past (range_with_len 0 n) first_place (omega arith)
 
--- Where none passes, there is no first.
-pub first_that_none : (test : ℕ → Bool) (n : ℕ) → ((k : ℕ) → k < n → test k ≡ false) → first_that test n ≡ None
-first_that_none test zero h = refl
-first_that_none test (suc n) h =
-    let p = first_that_none test n (λ k l. h k (omega arith)) in
-    let q = h n (omega arith) in
-    rw (p, q)
+  fails_before : (k : ℕ) → k < first_place → k < n → test k ≡ false
+  unfolding first_place
+  fails_before k l m = sym (ap test (place n k m)) ∙ fails_before_first test (range_with_len 0 n) k 0 l
 
--- The first is below the limit and passes, and none before it does.
-pub first_that_is : (test : ℕ → Bool) (n k : ℕ) → first_that test n ≡ Some k → (k < n) × (test k ≡ true) × ((j : ℕ) → j < k → test j ≡ false)
-first_that_is test zero k e = absurd (cc)
-first_that_is test (suc n) k e =
-    ⊎_elim
-    (λ a. let p = first_that_is test n k a in (omega (arith, p.0), p.1, p.2))
-    (λ b.
-    let p = here_some (test n) n k b.1 in
-    (omega (arith, p.0), sym (ap test p.0) ∙ p.1, λ j l. none_that test n b.0 j (omega (arith, p.0))))
-    (either_some (first_that test n) (cond (test n) (Some n) None) k e)
+  passes_at : first_place < n → test first_place ≡ true
+  unfolding first_place
+  passes_at l = let size = length-range_with_len 0 n in sym (ap test (place n first_place l)) ∙ passes_at_first test (range_with_len 0 n) 0 (omega arith)
 
--- What passes, with none before it that does, is the first.
-pub is_first_that : (test : ℕ → Bool) (n k : ℕ) → k < n → test k ≡ true → ((j : ℕ) → j < k → test j ≡ false) → first_that test n ≡ Some k
-is_first_that test zero k l t h = absurd (let z : ⊥ = omega arith in z)
-is_first_that test (suc n) k l t h =
-    ⊎_elim
-    (λ lt. let p = is_first_that test n k lt t h in rw p)
-    (λ ge.
-    let q : n ≡ k = omega arith in
-    let p = first_that_none test n (λ j m. h j (omega arith)) in
-    let r : test n ≡ true = ap test q ∙ t in
-    rw (p, r) (ap Some q))
-    (cases_lt k n)
+  is_place : (k : ℕ) → k ≤ n → ((j : ℕ) → j < k → test j ≡ false) → (k < n → test k ≡ true) → first_place ≡ k
+  unfolding first_place
+  is_place k l before here =
+      let size = length-range_with_len 0 n in
+      position_or_len_is test (range_with_len 0 n) k 0 (omega arith)
+      (λ j m. ap test (place n j (omega arith)) ∙ before j m)
+      (λ m. let lt : k < n = omega arith in ap test (place n k lt) ∙ here lt)
 
-pub each_below_is : (test : ℕ → Bool) (n : ℕ) → each_below test n ≡ true → (k : ℕ) → k < n → test k ≡ true
-each_below_is test zero e k l = absurd (let z : ⊥ = omega arith in z)
-each_below_is test (suc n) e k l =
-    let p = and_parts (each_below test n) (test n) e in
-    ⊎_elim
-    (λ lt. each_below_is test n p.0 k lt)
-    (λ ge. let q : k ≡ n = omega arith in ap test q ∙ p.1)
-    (cases_lt k n)
+  -- Where there is no first, none passes.
+  pub none_that : first_that test n ≡ None → (k : ℕ) → k < n → test k ≡ false
+  none_that e k l =
+      ⊎_elim (λ lt. let there = at_first lt in absurd (cc)) (λ ge. fails_before k (omega arith) l) (cases_lt first_place n)
+
+  -- Where none passes, there is no first.
+  pub first_that_none : ((k : ℕ) → k < n → test k ≡ false) → first_that test n ≡ None
+  first_that_none h = let p = is_place n (omega arith) h (λ l. absurd (omega arith)) in past_all (omega arith)
+
+  -- The first is below the limit and passes, and none before it does.
+  pub first_that_is : (k : ℕ) → first_that test n ≡ Some k → (k < n) × (test k ≡ true) × ((j : ℕ) → j < k → test j ≡ false)
+  first_that_is k e =
+      ⊎_elim
+      (λ lt.
+      let there = at_first lt in
+      let same : first_place ≡ k = cc in
+      (omega arith, sym (ap test same) ∙ passes_at lt, λ j m. fails_before j (omega arith) (omega arith)))
+      (λ ge. let none = past_all ge in absurd (cc))
+      (cases_lt first_place n)
+
+  -- What passes, with none before it that does, is the first.
+  pub is_first_that : (k : ℕ) → k < n → test k ≡ true → ((j : ℕ) → j < k → test j ≡ false) → first_that test n ≡ Some k
+  is_first_that k l t h = let p = is_place k (omega arith) h (λ m. t) in at_first (omega arith) ∙ ap Some p
+
+  pub each_below_is : each_below test n ≡ true → (k : ℕ) → k < n → test k ≡ true
+  each_below_is e k l =
+      let size = length-range_with_len 0 n in
+      ⊎_elim
+      (λ t. t)
+      (λ f. absurd (both_ways (each_below test n) (list_all_at test (range_with_len 0 n) k 0 (omega arith) (ap test (place n k l) ∙ f)) e))
+      (cases_Bool (test k))

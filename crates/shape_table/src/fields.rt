@@ -1,17 +1,22 @@
-// The fields of a table, read where they lie in its bytes.
-ghost use Rattle.std.specs.Prelude.{◌≡◌, ◌+◌, ◌<◌, ◌≤◌, length};
-ghost use Rattle.shape_table.specs.Layout.{u16_at, u32_at, header_periods, header_entries, header_rows, header_zero, header_index_offset, header_row_offset, Placed, entry_category, entry_zero, entry_day, entry_count, entry_row, row_weight};
+// The header and the entries of a table, taken out of its bytes.
+ghost use Rattle.std.specs.Prelude.{◌≡◌, ◌+◌, ◌≤◌, length};
+ghost use Rattle.std.specs.Result.{result_err};
+ghost use Rattle.shape_table.specs.Layout.{u16_at, u32_at, header_of, entry_in, areas_placed, header_fault, entry_in_range};
+
+use load_shapes::day::CategoryDay;
+use load_shapes::fault::SourceFault;
 
 // The number in two bytes, the low byte first.
-pub(crate) fn u16_at(bytes: &[u8], at: usize) -> u16
+fn u16_at(bytes: &[u8], at: usize) -> u16
     requires { at + 2 ≤ length bytes.now }
     ensures { result ≡ u16_at bytes.now at }
 {
     u16::from_le_bytes([bytes[at], bytes[at + 1]])
 }
 
-// The number in four bytes, the low byte first.
-pub(crate) fn u32_at(bytes: &[u8], at: usize) -> u32
+// The number in four bytes, the low byte first. It is no twin to be made one with the last: from_le_bytes belongs to
+// each type of number, and std has no trait for it.
+fn u32_at(bytes: &[u8], at: usize) -> u32
     requires { at + 4 ≤ length bytes.now }
     ensures { result ≡ u32_at bytes.now at }
 {
@@ -21,74 +26,99 @@ pub(crate) fn u32_at(bytes: &[u8], at: usize) -> u32
 // The sixteen bytes that a table begins with.
 #[derive(Clone, Copy)]
 pub(crate) struct Header {
-    pub periods: usize,
-    pub entries: usize,
-    pub rows: usize,
+    pub periods: u16,
+    pub entries: u16,
+    pub rows: u16,
     pub zero: u16,
-    pub index_offset: usize,
-    pub row_offset: usize,
+    pub index_offset: u32,
+    pub row_offset: u32,
 }
 
-// Each number of the header is below what its bytes can hold, so that sums of offsets are seen to fit.
-pub(crate) fn read_header(bytes: &[u8]) -> Header
-    requires { 16 ≤ length bytes.now }
-    ensures periods { (result.periods ≡ header_periods bytes.now) × (result.periods < 65536) }
-    ensures entries { (result.entries ≡ header_entries bytes.now) × (result.entries < 65536) }
-    ensures rows { (result.rows ≡ header_rows bytes.now) × (result.rows < 65536) }
-    ensures zero { result.zero ≡ header_zero bytes.now }
-    ensures index { (result.index_offset ≡ header_index_offset bytes.now) × (result.index_offset < 4294967296) }
-    ensures weights { (result.row_offset ≡ header_row_offset bytes.now) × (result.row_offset < 4294967296) }
-{
-    Header {
-        periods: usize::from(u16_at(bytes, 0)),
-        entries: usize::from(u16_at(bytes, 2)),
-        rows: usize::from(u16_at(bytes, 4)),
-        zero: u16_at(bytes, 6),
-        index_offset: u32_at(bytes, 8) as usize,
-        row_offset: u32_at(bytes, 12) as usize,
+impl From<[u8; 16]> for Header {
+    ghost from_gives = { λ bytes result. result ≡ header_of bytes };
+
+    fn from(bytes: [u8; 16]) -> Header {
+        Header {
+            periods: u16_at(&bytes, 0),
+            entries: u16_at(&bytes, 2),
+            rows: u16_at(&bytes, 4),
+            zero: u16_at(&bytes, 6),
+            index_offset: u32_at(&bytes, 8),
+            row_offset: u32_at(&bytes, 12),
+        }
+    }
+}
+
+impl Header {
+    // Whether the index starts at 16 or later, the rows at its end or later, and both lie within so many bytes.
+    fn places_areas(self, len: usize) -> bool
+        ensures { result ≡ areas_placed self len }
+    {
+        let index_offset = self.index_offset as usize;
+        let row_offset = self.row_offset as usize;
+        let weights = usize::from(self.rows) * usize::from(self.periods);
+        16 <= index_offset
+            && index_offset + 8 * usize::from(self.entries) <= row_offset
+            && row_offset + 2 * weights <= len
+    }
+
+    // Why this is not the header of a table of so many bytes: the first fault that fits.
+    pub(crate) fn check(self, len: usize) -> Result<(), SourceFault>
+        ensures { result_err result ≡ header_fault self len }
+    {
+        if self.periods != 48 && self.periods != 96 {
+            return Err(SourceFault::Periods);
+        }
+        if self.zero != 0 {
+            return Err(SourceFault::ZeroField);
+        }
+        if self.places_areas(len) {
+            Ok(())
+        } else {
+            Err(SourceFault::Misplaced)
+        }
     }
 }
 
 // An entry of the index.
 #[derive(Clone, Copy)]
-pub(crate) struct Entry {
-    pub category: usize,
+pub(crate) struct IndexEntry {
+    pub at: CategoryDay,
     pub zero: u8,
-    pub day: usize,
     pub count: u16,
-    pub row: usize,
+    pub row: u16,
 }
 
-// The entry at a place of the index.
-pub(crate) fn read_entry(bytes: &[u8], place: usize) -> Entry
-    requires placed { Placed bytes.now }
-    requires within { place < header_entries bytes.now }
-    ensures category { result.category ≡ entry_category bytes.now place }
-    ensures zero { result.zero ≡ entry_zero bytes.now place }
-    ensures day { result.day ≡ entry_day bytes.now place }
-    ensures count { result.count ≡ entry_count bytes.now place }
-    ensures row { result.row ≡ entry_row bytes.now place }
-{
-    let at = read_header(bytes).index_offset + 8 * place;
-    Entry {
-        category: usize::from(bytes[at]),
-        zero: bytes[at + 1],
-        day: usize::from(u16_at(bytes, at + 2)),
-        count: u16_at(bytes, at + 4),
-        row: usize::from(u16_at(bytes, at + 6)),
+impl From<[u8; 8]> for IndexEntry {
+    ghost from_gives = { λ bytes result. result ≡ entry_in bytes 0 };
+
+    fn from(bytes: [u8; 8]) -> IndexEntry {
+        let [category, zero, ..] = bytes;
+        let day = u16_at(&bytes, 2);
+        IndexEntry {
+            at: CategoryDay {
+                category: usize::from(category),
+                day: usize::from(day),
+            },
+            zero,
+            count: u16_at(&bytes, 4),
+            row: u16_at(&bytes, 6),
+        }
     }
 }
 
-// The weight of one period in a row.
-pub(crate) fn weight_at(bytes: &[u8], row: usize, period: usize) -> u16
-    requires placed { Placed bytes.now }
-    requires row { row < header_rows bytes.now }
-    requires period { period < header_periods bytes.now }
-    ensures { result ≡ row_weight bytes.now row period }
+impl IndexEntry {
+    // Whether the category, the zero, the day and the row, of so many rows, are in range.
+    pub(crate) fn is_in_range(self, rows: u16) -> bool
+        ensures { result ≡ entry_in_range rows self }
+    {
+        self.at.is_within_bounds() && self.zero == 0 && self.row < rows
+    }
+}
+
+// The weight in two bytes.
+pub(crate) fn weight_in(bytes: [u8; 2]) -> u16
+    ensures { result ≡ u16_at bytes 0 }
 {
-    let header = read_header(bytes);
-    u16_at(
-        bytes,
-        header.row_offset + 2 * (row * header.periods + period),
-    )
+    u16_at(&bytes, 0)
 }

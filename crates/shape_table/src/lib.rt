@@ -1,6 +1,6 @@
 // A shape table: load shapes, read in place from bytes.
 #![tactic(auto)]
 
-mod checking;
+mod areas;
 mod fields;
 pub mod table;

@@ -1,16 +1,19 @@
 // A shape table: load shapes, read in place from the bytes that hold them.
-ghost use Rattle.std.specs.Prelude.{◌≡◌, ℕ, ◌<◌, ◌≤◌, true, false, is_some, None, MatchResult, OnOk};
+ghost use Rattle.std.specs.Prelude.{◌≡◌, ◌<◌, false, is_some, None, IfSome, MatchResult, OnOk};
 ghost use Rattle.std.specs.Option.{option_map};
-ghost use Rattle.load_shapes.specs.Faults.{listed, fault_in, refusal};
-ghost use Rattle.shape_table.specs.Layout.{Bytes, header_periods, header_entries, header_rows, entry_category, entry_day, entry_count, entry_row, row_weight, before_day, entry_of, table_fault, table_meaning};
+ghost use Rattle.std.specs.Result.{result_err};
+ghost use Rattle.faults.specs.Listings.{refusal};
+ghost use Rattle.load_shapes.specs.Faults.{listed};
+ghost use Rattle.shape_table.specs.Layout.{Bytes, header_of, entry_at, entry_of, table_fault, table_meaning};
 ghost use Rattle.shape_table.specs.TableLaws.{table_lawful};
 ghost use Rattle.shape_table.specs.Told.{TellsItsEntries};
 
-use crate::checking::{find_fault, is_before};
-use crate::fields::*;
-use load_shapes::day::DayShape;
+use crate::areas::{Areas, weight_of};
+use crate::fields::{Header, IndexEntry};
+use load_shapes::day::{CategoryDay, DayShape};
 use load_shapes::fault::SourceFault;
 use load_shapes::source::Source;
+use std::array;
 
 // Bytes that were found to be a table.
 #[derive(Clone, Copy)]
@@ -23,95 +26,64 @@ pub struct ShapeTable<'a> {
 // The header of a table of 48 periods with no entry and no row.
 const EMPTY: [u8; 16] = [48, 0, 0, 0, 0, 0, 0, 0, 16, 0, 0, 0, 16, 0, 0, 0];
 
+// Whether bytes are a table, and if not, why: the first fault that fits.
+fn check(bytes: &[u8]) -> Result<(), SourceFault>
+    ensures { result_err result ≡ table_fault bytes.now }
+{
+    Areas::find(bytes)?.check()
+}
+
 impl<'a> ShapeTable<'a> {
     // The built-in table, which has no shape for any day.
     pub fn empty() -> ShapeTable<'a>
         ensures periods { (table_meaning result.bytes.now).periods ≡ 48 }
-        ensures shapes { (category day : ℕ) → (table_meaning result.bytes.now).shape category day ≡ None }
+        ensures shapes { (at : CategoryDay) → (table_meaning result.bytes.now).shape at ≡ None }
     {
         ShapeTable { bytes: &EMPTY }
     }
 
     // Puts the table that lies in these bytes into the place of this one. Where they hold none, this one stays.
     pub fn open(&mut self, bytes: &'a [u8]) -> Result<(), SourceFault>
-        ensures fault { fault_in result ≡ table_fault bytes.now }
-        ensures refusal { refusal result ≡ option_map listed (table_fault bytes.now) }
+        ensures fault { result_err result ≡ table_fault bytes.now }
+        ensures refusal { refusal listed result ≡ option_map listed (table_fault bytes.now) }
         ensures meaning { OnOk result (table_meaning self.new.bytes.now ≡ table_meaning bytes.now) }
         ensures entries { OnOk result (TellsItsEntries bytes.now) }
         ensures place { MatchResult result (λ _. self.new.bytes.now ≡ bytes.now) (λ _. self.new ≡ self.old) }
     {
-        match find_fault(bytes) {
-            Some(fault) => Err(fault),
-            None => {
-                self.bytes = bytes;
-                Ok(())
-            }
+        check(bytes)?;
+        self.bytes = bytes;
+        Ok(())
+    }
+
+    // The areas, which the check found.
+    fn areas(&self) -> Areas<'a>
+        ensures { result.bytes.now ≡ self.now.bytes.now }
+    {
+        let first: &[u8; 16] = self.bytes.first_chunk().unwrap();
+        Areas {
+            header: Header::from(*first),
+            bytes: self.bytes,
         }
     }
 
-    // The header.
-    fn header(&self) -> Header
-        ensures periods { result.periods ≡ header_periods self.now.bytes.now }
-        ensures entries { result.entries ≡ header_entries self.now.bytes.now }
+    // The place of the entry of a category's day, if there is one. Entries rise, so that halves of the index can be
+    // left out.
+    fn find_place(&self, at: CategoryDay) -> Option<usize>
+        ensures { result ≡ entry_of self.now.bytes.now at }
     {
-        read_header(self.bytes)
+        let index = self.areas().index();
+        index
+            .binary_search_by_key(&at, |entry| IndexEntry::from(*entry).at)
+            .ok()
     }
 
-    // The entry at a place of the index.
-    fn entry(&self, place: usize) -> Entry
-        requires { place < header_entries self.now.bytes.now }
-        ensures category { result.category ≡ entry_category self.now.bytes.now place }
-        ensures day { result.day ≡ entry_day self.now.bytes.now place }
-        ensures count { result.count ≡ entry_count self.now.bytes.now place }
-        ensures row { result.row ≡ entry_row self.now.bytes.now place }
-        ensures within { result.row < header_rows self.now.bytes.now }
+    // The entry of a category's day, if there is one.
+    fn find_entry(&self, at: CategoryDay) -> Option<IndexEntry>
+        ensures entry { result ≡ option_map (entry_at self.now.bytes.now) (entry_of self.now.bytes.now at) }
+        ensures row { IfSome result (λ entry. entry.row < (header_of self.now.bytes.now).rows) }
     {
-        read_entry(self.bytes, place)
-    }
-
-    // The weight of a period in a row.
-    fn row_weight(&self, row: usize, period: usize) -> u16
-        requires row { row < header_rows self.now.bytes.now }
-        requires period { period < header_periods self.now.bytes.now }
-        ensures { result ≡ row_weight self.now.bytes.now row period }
-    {
-        weight_at(self.bytes, row, period)
-    }
-
-    // How many entries come before a category's day. Entries rise, so that halves of the index can be left out.
-    fn count_before(&self, category: usize, day: usize) -> usize
-        ensures within { result ≤ header_entries self.now.bytes.now }
-        ensures before { (k : ℕ) → k < result → before_day self.now.bytes.now category day k ≡ true }
-        ensures after { (k : ℕ) → result ≤ k → k < header_entries self.now.bytes.now → before_day self.now.bytes.now category day k ≡ false }
-    {
-        let mut low = 0;
-        let mut high = self.header().entries;
-        while low < high {
-            let middle = low + (high - low) / 2;
-            let entry = self.entry(middle);
-            if is_before(entry.category, entry.day, category, day) {
-                low = middle + 1;
-            } else {
-                high = middle;
-            }
-        }
-        low
-    }
-
-    // The place of the entry of a category's day, if there is one.
-    fn find_entry(&self, category: usize, day: usize) -> Option<usize>
-        ensures { result ≡ entry_of self.now.bytes.now category day }
-    {
-        let place = self.count_before(category, day);
-        if place >= self.header().entries {
-            return None;
-        }
-        let entry = self.entry(place);
-        if entry.category == category && entry.day == day {
-            Some(place)
-        } else {
-            None
-        }
+        let place = self.find_place(at)?;
+        Some(self.areas().entry(place))
     }
 }
 
@@ -121,30 +93,24 @@ impl<'a> Source for ShapeTable<'a> {
     ghost lawful = { λ t. table_lawful t.bytes.now t.octets t.checked };
 
     fn periods(&self) -> usize {
-        self.header().periods
+        usize::from(self.areas().header.periods)
     }
 
-    fn count(&self, category: usize, day: usize) -> Option<u16> {
-        let place = self.find_entry(category, day)?;
-        Some(self.entry(place).count)
+    fn count(&self, at: CategoryDay) -> Option<u16> {
+        let entry = self.find_entry(at)?;
+        Some(entry.count)
     }
 
-    fn weight(&self, category: usize, day: usize, period: usize) -> Option<u16> {
-        let place = self.find_entry(category, day)?;
-        if period >= self.header().periods {
-            return None;
-        }
-        Some(self.row_weight(self.entry(place).row, period))
+    fn weight(&self, at: CategoryDay, period: usize) -> Option<u16> {
+        let entry = self.find_entry(at)?;
+        weight_of(self.areas().row(entry.row), period)
     }
 
     // One search for the whole day.
-    fn shape(&self, category: usize, day: usize) -> Option<DayShape> {
-        let place = self.find_entry(category, day)?;
-        let Entry { count, row, .. } = self.entry(place);
-        let mut weights = [0; 96];
-        for period in 0..self.header().periods {
-            weights[period] = self.row_weight(row, period);
-        }
+    fn shape(&self, at: CategoryDay) -> Option<DayShape> {
+        let IndexEntry { count, row, .. } = self.find_entry(at)?;
+        let row = self.areas().row(row);
+        let weights = array::from_fn(|period| weight_of(row, period).unwrap_or(0));
         Some(DayShape { count, weights })
     }
 }

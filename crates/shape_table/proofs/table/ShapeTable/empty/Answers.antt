@@ -12,4 +12,4 @@ invariant_of-result c = record {
 
 pub returns : goal.returns
 unfolding u16_at u32_at entry_of
-returns c = record { periods = refl; shapes = λ category day. refl }
+returns c = record { periods = refl; shapes = λ at. refl }

@@ -1,26 +1,21 @@
--- The first entry that does not come before the day is the day's, or none is.
-use Rattle.std.proofs.Common.{◌≡◌, true, false, arith}
-use Rattle.std.proofs.lemmas.Bool.Decides.{nat_tests}
-use Rattle.shape_table.specs.Layout.{of_day}
-use Rattle.shape_table.specs.TableLaws.{sound}
-use Rattle.shape_table.proofs.Search.{found_at, found_none}
+-- The place is one of the index, and the entry there was found in range.
+use Rattle.std.proofs.Common.{◌≡◌, sym, ap, ◌∙◌}
+use Rattle.shape_table.specs.Layout.{entry_at}
+use Rattle.shape_table.specs.TableLaws.{sound, in_range, entry_of_below}
 use Rattle.shape_table.proofs.table.ShapeTable.find_entry.Goals as goal
 
-pub returns-then-place-header : goal.returns-then-place-header
-returns-then-place-header c =
-    let bs = c.args.self.now.bytes.now in
-    found_none bs (sound bs c.args.self.now.checked) c.args.category c.args.day c.count_before-place.result
-    c.count_before-place.ensures.before c.count_before-place.ensures.after (λ l. absurd (let z : ⊥ = omega arith in z))
+pub entry-requires : goal.entry-requires
+entry-requires c =
+    let table = c.args.self.now in
+    let own = c.areas.ensures in
+    let below = entry_of_below table.bytes.now c.args.at c.in_ok-place.place (sym c.in_ok-place.ensures) in
+    rw own below
 
-pub returns-then-entry-day : goal.returns-then-entry-day
-returns-then-entry-day c =
-    let bs = c.args.self.now.bytes.now in
-    let own : of_day bs c.args.category c.args.day c.count_before-place.result ≡ true = grind (arith, nat_tests) in
-    found_at bs c.args.category c.args.day c.count_before-place.result (omega arith) own c.count_before-place.ensures.before
-
-pub returns-else-entry-category : goal.returns-else-entry-category
-returns-else-entry-category c =
-    let bs = c.args.self.now.bytes.now in
-    let other : of_day bs c.args.category c.args.day c.count_before-place.result ≡ false = grind (arith, nat_tests) in
-    found_none bs (sound bs c.args.self.now.checked) c.args.category c.args.day c.count_before-place.result
-    c.count_before-place.ensures.before c.count_before-place.ensures.after (λ l. other)
+pub returns-clause-row : goal.returns-clause-row
+returns-clause-row c =
+    let table = c.args.self.now in
+    let own = c.areas.ensures in
+    let below = entry_of_below table.bytes.now c.args.at c.in_ok-place.place (sym c.in_ok-place.ensures) in
+    let row = (in_range table.bytes.now c.in_ok-place.place ((sound table.bytes.now table.checked).entries c.in_ok-place.place below)).row in
+    let same : c.entry.result ≡ entry_at table.bytes.now c.in_ok-place.place = c.entry.ensures ∙ ap (λ bytes. entry_at bytes c.in_ok-place.place) own in
+    rw same row
