@@ -1,8 +1,9 @@
 // A profile: one list of weights for every category and day. Several accounts share the list, so a profile borrows it.
 ghost use Rattle.std.specs.Prelude.{◌≡◌, ◌^◌, ◌<◌, false, is_some, Some, None, MatchResult};
-ghost use Rattle.fitting_sources.specs.Profile.{first_heavy, profile_fault, profile_meaning, profile_lawful};
+ghost use Rattle.fitting_sources.specs.Profile.{profile_fault, profile_meaning, profile_lawful};
 
 use crate::profile_fault::ProfileFault;
+use load_shapes::day::CategoryDay;
 use load_shapes::source::Source;
 
 #[derive(Clone, Copy)]
@@ -13,18 +14,6 @@ pub struct Profile<'a> {
     ghost sound: { is_some (profile_fault weights.now) ≡ false },
 }
 
-// The first period whose weight is above 10,000.
-fn find_heavy(weights: &[u16]) -> Option<ProfileFault>
-    ensures { result ≡ first_heavy 0 weights.now }
-{
-    for (period, weight) in weights.iter().enumerate() {
-        if *weight > 10_000 {
-            return Some(ProfileFault::Weight { period });
-        }
-    }
-    None
-}
-
 impl<'a> Profile<'a> {
     // Whether weights make a profile.
     pub fn check(weights: &[u16]) -> Result<(), ProfileFault>
@@ -33,8 +22,8 @@ impl<'a> Profile<'a> {
         if weights.len() != 48 && weights.len() != 96 {
             return Err(ProfileFault::Periods);
         }
-        match find_heavy(weights) {
-            Some(fault) => Err(fault),
+        match weights.iter().position(|weight| *weight > 10_000) {
+            Some(period) => Err(ProfileFault::Weight { period }),
             None => Ok(()),
         }
     }
@@ -58,19 +47,12 @@ impl<'a> Source for Profile<'a> {
         self.weights.len()
     }
 
-    fn count(&self, category: usize, day: usize) -> Option<u16> {
-        if category < 64 && day < 400 {
-            Some(self.count)
-        } else {
-            None
-        }
+    fn count(&self, at: CategoryDay) -> Option<u16> {
+        at.is_within_bounds().then_some(self.count)
     }
 
-    fn weight(&self, category: usize, day: usize, period: usize) -> Option<u16> {
-        if category < 64 && day < 400 && period < self.weights.len() {
-            Some(self.weights[period])
-        } else {
-            None
-        }
+    fn weight(&self, at: CategoryDay, period: usize) -> Option<u16> {
+        self.count(at)?;
+        self.weights.get(period).copied()
     }
 }

@@ -2,6 +2,7 @@
 ghost use Rattle.std.specs.Prelude.{◌≡◌, ◌≤◌, ◌&&◌, is_some, IfSome, nat_le};
 ghost use Rattle.fitting_sources.specs.TwoRate.{rate, two_rate_meaning, two_rate_lawful};
 
+use load_shapes::day::CategoryDay;
 use load_shapes::source::Source;
 
 // Neither `Drop` nor `Copy`: a source need be neither.
@@ -50,19 +51,12 @@ impl Source for TwoRate {
         48
     }
 
-    fn count(&self, category: usize, day: usize) -> Option<u16> {
-        if category < 64 && day < 400 {
-            Some(1)
-        } else {
-            None
-        }
+    fn count(&self, at: CategoryDay) -> Option<u16> {
+        at.is_within_bounds().then_some(1)
     }
 
-    fn weight(&self, category: usize, day: usize, period: usize) -> Option<u16> {
-        if category < 64 && day < 400 && period < 48 {
-            Some(self.rate(period))
-        } else {
-            None
-        }
+    fn weight(&self, at: CategoryDay, period: usize) -> Option<u16> {
+        self.count(at)?;
+        (period < 48).then_some(self.rate(period))
     }
 }

@@ -13,6 +13,6 @@ fn main(rt: HostRuntime) -> anyhow::Result<()> {
         return Err(anyhow!("the file of a shape table is wanted"));
     };
     let table = fs::read(&rt, path.as_str())?;
-    shapes::print(rt, &table)?;
+    shapes::print(&rt, &table)?;
     Ok(())
 }

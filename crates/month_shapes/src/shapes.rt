@@ -1,5 +1,6 @@
 // The load shapes of one category: those of a table that rest on enough data, and else the even one.
 use load_shapes::bounded;
+use load_shapes::day::CategoryDay;
 use load_shapes::de_minimis::DeMinimis;
 use load_shapes::even::EvenSource;
 use load_shapes::source::Source;
@@ -13,24 +14,27 @@ const CATEGORY: usize = 10;
 const DE_MINIMIS: u16 = 50;
 
 // The shape of a day: its data count, and then its weights, those of twelve hours on a line.
-fn print_day<S: Source>(rt: HostRuntime, source: &S, day: usize) -> io::Result<()> {
-    let Some(shape) = source.shape(CATEGORY, day) else {
+fn print_day(rt: &impl Print, source: &impl Source, day: usize) -> io::Result<()> {
+    let at = CategoryDay {
+        category: CATEGORY,
+        day,
+    };
+    let Some(shape) = source.shape(at) else {
         return println!(rt; "day {day:2}: no shape");
     };
     let count = shape.count;
     let periods = bounded::periods(source);
     print!(rt; "day {day:2}: count {count}")?;
-    for period in 0..periods {
-        if period % (periods / 2) == 0 {
-            print!(rt; "\n   ")?;
+    for half in shape.weights[..periods].chunks(periods / 2) {
+        print!(rt; "\n   ")?;
+        for weight in half {
+            print!(rt; " {weight}")?;
         }
-        let weight = shape.weights[period];
-        print!(rt; " {weight}")?;
     }
     println!(rt; "")
 }
 
-fn print_days<S: Source>(rt: HostRuntime, source: &S) -> io::Result<()> {
+fn print_days(rt: &impl Print, source: &impl Source) -> io::Result<()> {
     let periods = source.periods();
     println!(rt;
         "Load shapes of category {CATEGORY}, in days of {periods} periods, and even weights where a count is under {DE_MINIMIS}"
@@ -42,7 +46,7 @@ fn print_days<S: Source>(rt: HostRuntime, source: &S) -> io::Result<()> {
 }
 
 // The table through both layers.
-fn print_layered(rt: HostRuntime, table: ShapeTable, even: EvenSource) -> io::Result<()> {
+fn print_layered(rt: &impl Print, table: ShapeTable, even: EvenSource) -> io::Result<()> {
     let enough = DeMinimis::new(table, DE_MINIMIS);
     match Substitute::check(&enough, &even) {
         Ok(()) => print_days(rt, &Substitute::new(enough, even)),
@@ -51,7 +55,7 @@ fn print_layered(rt: HostRuntime, table: ShapeTable, even: EvenSource) -> io::Re
 }
 
 // The shapes in the bytes of a table.
-pub fn print(rt: HostRuntime, bytes: &[u8]) -> io::Result<()> {
+pub fn print(rt: &impl Print, bytes: &[u8]) -> io::Result<()> {
     let mut table = ShapeTable::empty();
     if let Err(fault) = table.open(bytes) {
         return println!(rt; "no table: {fault}");

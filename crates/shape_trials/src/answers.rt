@@ -1,18 +1,15 @@
 // What sources answer, within their bounds and beyond.
 use load_shapes::bounded;
+use load_shapes::day::CategoryDay;
 use load_shapes::even::EvenSource;
 use load_shapes::source::Source;
 use std::io;
 
-// A period of a category's day.
+// A category, a day, and a period of the day.
 #[derive(Clone, Copy)]
-pub struct Asked {
-    pub category: usize,
-    pub day: usize,
-    pub period: usize,
-}
+pub struct Asked(pub usize, pub usize, pub usize);
 
-fn print_number(rt: HostRuntime, name: &str, number: Option<u16>) -> io::Result<()> {
+fn print_number(rt: &impl Print, name: &str, number: Option<u16>) -> io::Result<()> {
     match number {
         Some(number) => print!(rt; "{name} {number}"),
         None => print!(rt; "no {name}"),
@@ -20,28 +17,21 @@ fn print_number(rt: HostRuntime, name: &str, number: Option<u16>) -> io::Result<
 }
 
 // The sum of a day's weights, asked for at once.
-fn sum_of_day<S: Source>(source: &S, category: usize, day: usize) -> Option<u64> {
-    let shape = bounded::shape(source, category, day)?;
-    let mut sum: u64 = 0;
-    for weight in shape.weights {
-        sum = sum.saturating_add(u64::from(weight));
-    }
-    Some(sum)
+fn sum_of_day(source: &impl Source, at: CategoryDay) -> Option<u64> {
+    let shape = bounded::shape(source, at)?;
+    Some(shape.weights.iter().map(|weight| u64::from(*weight)).sum())
 }
 
 // What a source says of each period that is asked for.
-pub fn print_answers<S: Source>(rt: HostRuntime, source: &S, asked: &[Asked]) -> io::Result<()> {
+pub fn print_answers(rt: &impl Print, source: &impl Source, asked: &[Asked]) -> io::Result<()> {
     for question in asked {
-        let Asked {
-            category,
-            day,
-            period,
-        } = *question;
+        let Asked(category, day, period) = *question;
+        let at = CategoryDay { category, day };
         print!(rt; "  category {category}, day {day}, period {period}: ")?;
-        print_number(rt, "count", source.count(category, day))?;
+        print_number(rt, "count", source.count(at))?;
         print!(rt; ", ")?;
-        print_number(rt, "weight", bounded::weight(source, category, day, period))?;
-        match sum_of_day(source, category, day) {
+        print_number(rt, "weight", bounded::weight(source, at, period))?;
+        match sum_of_day(source, at) {
             Some(sum) => println!(rt; ", {sum} in the day")?,
             None => println!(rt; ", no shape")?,
         }
@@ -50,34 +40,14 @@ pub fn print_answers<S: Source>(rt: HostRuntime, source: &S, asked: &[Asked]) ->
 }
 
 const EDGES: [Asked; 5] = [
-    Asked {
-        category: 0,
-        day: 0,
-        period: 0,
-    },
-    Asked {
-        category: 63,
-        day: 399,
-        period: 47,
-    },
-    Asked {
-        category: 63,
-        day: 399,
-        period: 48,
-    },
-    Asked {
-        category: 64,
-        day: 399,
-        period: 47,
-    },
-    Asked {
-        category: 63,
-        day: 400,
-        period: 47,
-    },
+    Asked(0, 0, 0),
+    Asked(63, 399, 47),
+    Asked(63, 399, 48),
+    Asked(64, 399, 47),
+    Asked(63, 400, 47),
 ];
 
-pub fn print_even(rt: HostRuntime) -> io::Result<()> {
+pub fn print_even(rt: &impl Print) -> io::Result<()> {
     for periods in [0, 47, 48, 49, 95, 96, 97, usize::MAX] {
         match EvenSource::new(periods) {
             Ok(even) => {

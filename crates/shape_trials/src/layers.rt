@@ -12,31 +12,15 @@ use std::io;
 
 // Days with an entry in the table, and one without.
 const DAYS: [Asked; 4] = [
-    Asked {
-        category: 3,
-        day: 7,
-        period: 1,
-    },
-    Asked {
-        category: 3,
-        day: 8,
-        period: 1,
-    },
-    Asked {
-        category: 3,
-        day: 9,
-        period: 47,
-    },
-    Asked {
-        category: 63,
-        day: 399,
-        period: 47,
-    },
+    Asked(3, 7, 1),
+    Asked(3, 8, 1),
+    Asked(3, 9, 47),
+    Asked(63, 399, 47),
 ];
 
 // One source and, where it has no shape, another, with what the check says of the two.
 fn print_substitute<S: Source + Drop, T: Source + Drop>(
-    rt: HostRuntime,
+    rt: &impl Print,
     first: S,
     second: T,
 ) -> io::Result<()> {
@@ -48,7 +32,7 @@ fn print_substitute<S: Source + Drop, T: Source + Drop>(
     print_answers(rt, &both, &DAYS)
 }
 
-fn print_over_table(rt: HostRuntime, table: ShapeTable) -> io::Result<()> {
+fn print_over_table(rt: &impl Print, table: ShapeTable) -> io::Result<()> {
     println!(rt; "table")?;
     print_answers(rt, &table, &DAYS)?;
     for threshold in [5, 6] {
@@ -65,7 +49,7 @@ fn print_over_table(rt: HostRuntime, table: ShapeTable) -> io::Result<()> {
 }
 
 // A profile borrows its weights.
-fn print_profile(rt: HostRuntime, weights: &[u16]) -> io::Result<()> {
+fn print_profile(rt: &impl Print, weights: &[u16]) -> io::Result<()> {
     let periods = weights.len();
     match Profile::check(weights) {
         Ok(()) => {
@@ -77,7 +61,7 @@ fn print_profile(rt: HostRuntime, weights: &[u16]) -> io::Result<()> {
 }
 
 // A source that can be neither copied nor let go comes back out of the layers that it went into.
-fn print_given_back(rt: HostRuntime, source: TwoRate) -> io::Result<()> {
+fn print_given_back(rt: &impl Print, source: TwoRate) -> io::Result<()> {
     let layer = DeMinimis::new(source, 2);
     let both = Substitute::new(layer, ShapeTable::empty());
     let told = print_answers(rt, &both, &DAYS);
@@ -90,7 +74,7 @@ fn print_given_back(rt: HostRuntime, source: TwoRate) -> io::Result<()> {
     println!(rt; "given back: {night} at night, {day} by day")
 }
 
-pub fn print(rt: HostRuntime) -> io::Result<()> {
+pub fn print(rt: &(impl Print + AllocGlobal)) -> io::Result<()> {
     let bytes = tables::base(rt.alloc())?;
     let mut table = ShapeTable::empty();
     match table.open(&bytes) {

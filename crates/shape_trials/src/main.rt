@@ -10,8 +10,8 @@ mod tables;
 use std::io;
 
 fn main(rt: HostRuntime) -> io::Result<()> {
-    figures::print(rt)?;
-    opening::print(rt)?;
-    answers::print_even(rt)?;
-    layers::print(rt)
+    figures::print(&rt)?;
+    opening::print(&rt)?;
+    answers::print_even(&rt)?;
+    layers::print(&rt)
 }

@@ -1,6 +1,7 @@
 // Tables at the edge of each refusal.
 use crate::tables;
 use crate::tables::Patch;
+use load_shapes::day::CategoryDay;
 use load_shapes::source::Source;
 use shape_table::table::ShapeTable;
 use std::io;
@@ -178,7 +179,7 @@ const TRIALS: [Trial; 33] = [
     },
 ];
 
-fn attempt(rt: HostRuntime, name: &str, bytes: &[u8]) -> io::Result<()> {
+fn attempt(rt: &impl Print, name: &str, bytes: &[u8]) -> io::Result<()> {
     let mut table = ShapeTable::empty();
     match table.open(bytes) {
         Ok(()) => {
@@ -190,25 +191,31 @@ fn attempt(rt: HostRuntime, name: &str, bytes: &[u8]) -> io::Result<()> {
 }
 
 // Parts of the table, from its first byte on.
-fn print_parts(rt: HostRuntime, bytes: &[u8]) -> io::Result<()> {
+fn print_parts(rt: &impl Print, bytes: &[u8]) -> io::Result<()> {
     for len in [0, 15, 16, 331] {
         if len <= bytes.len() {
             print!(rt; "{len} bytes of ")?;
-            attempt(rt, "it", &bytes[0..len])?;
+            attempt(rt, "it", &bytes[..len])?;
         }
     }
     Ok(())
 }
 
+// The last category and day that a table may have.
+const LAST_DAY: CategoryDay = CategoryDay {
+    category: 63,
+    day: 399,
+};
+
 // What a table in its place says of a day, before and after a refused opening.
-fn print_refused<'a>(rt: HostRuntime, good: &'a [u8], bad: &'a [u8]) -> io::Result<()> {
+fn print_refused<'a>(rt: &impl Print, good: &'a [u8], bad: &'a [u8]) -> io::Result<()> {
     let mut table = ShapeTable::empty();
     for bytes in [bad, good, bad] {
         match table.open(bytes) {
             Ok(()) => print!(rt; "opened: ")?,
             Err(_) => print!(rt; "refused: ")?,
         }
-        match table.weight(63, 399, 47) {
+        match table.weight(LAST_DAY, 47) {
             Some(weight) => println!(rt; "the last period of all weighs {weight}")?,
             None => println!(rt; "the last period of all has no weight")?,
         }
@@ -216,7 +223,7 @@ fn print_refused<'a>(rt: HostRuntime, good: &'a [u8], bad: &'a [u8]) -> io::Resu
     Ok(())
 }
 
-pub fn print(rt: HostRuntime) -> io::Result<()> {
+pub fn print(rt: &(impl Print + AllocGlobal)) -> io::Result<()> {
     let base = tables::base(rt.alloc())?;
     for trial in &TRIALS {
         let bytes = tables::patched(rt.alloc(), &base, trial.patches)?;

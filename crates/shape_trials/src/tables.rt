@@ -34,10 +34,7 @@ const ENTRIES: [Entry; 3] = [
 const ROW_OFFSET: u16 = 44;
 
 fn push_u16(bytes: &mut Vec<u8>, number: u16) -> Result<(), AllocError> {
-    for byte in number.to_le_bytes() {
-        bytes.push(byte)?;
-    }
-    Ok(())
+    bytes.extend_from_slice(&number.to_le_bytes())
 }
 
 fn push_header(bytes: &mut Vec<u8>) -> Result<(), AllocError> {
@@ -49,16 +46,12 @@ fn push_header(bytes: &mut Vec<u8>) -> Result<(), AllocError> {
 
 fn push_index(bytes: &mut Vec<u8>) -> Result<(), AllocError> {
     for entry in &ENTRIES {
-        bytes.push(entry.category)?;
-        bytes.push(0)?;
+        bytes.extend_from_slice(&[entry.category, 0])?;
         for number in [entry.day, entry.count, entry.row] {
             push_u16(bytes, number)?;
         }
     }
-    for _ in 0..4 {
-        bytes.push(0)?;
-    }
-    Ok(())
+    bytes.extend_from_slice(&[0; 4])
 }
 
 // Row 0 weighs 100 at midnight and one more at each period, row 1 weighs 10,000 throughout, row 2 nothing.

@@ -2,68 +2,51 @@
 // it can be. What was answered goes to standard output, and the times to standard error.
 #![tactic(auto)]
 
+use load_shapes::day::CategoryDay;
 use load_shapes::de_minimis::DeMinimis;
 use load_shapes::even::EvenSource;
 use load_shapes::source::Source;
 use load_shapes::substitute::Substitute;
 use shape_table::table::ShapeTable;
-use std::alloc::Global;
+use std::alloc::{AllocError, Global};
+use std::rt::Clock;
 use std::time::Instant;
 
-fn low(n: usize) -> u8 {
-    (n % 256) as u8
-}
+// Where the one row starts: after the header of 16 bytes, and 8 bytes for the entry of each category and day.
+const ROW_OFFSET: u32 = 16 + 8 * 64 * 400;
 
-fn high(n: usize) -> u8 {
-    (n / 256 % 256) as u8
+fn push_u16(bytes: &mut Vec<u8>, number: u16) -> Result<(), AllocError> {
+    bytes.extend_from_slice(&number.to_le_bytes())
 }
 
 // 96 periods, and an entry for each of 64 categories and 400 days, which share a row.
-fn build(heap: Global) -> anyhow::Result<Vec<u8>> {
+fn build(heap: Global) -> Result<Vec<u8>, AllocError> {
     let mut bytes = Vec::new(heap);
-    let rows = 16 + 8 * 25600;
-    for b in [
-        96,
-        0,
-        0,
-        100,
-        1,
-        0,
-        0,
-        0,
-        16,
-        0,
-        0,
-        0,
-        low(rows),
-        high(rows),
-        3,
-        0,
-    ] {
-        bytes.push(b)?;
+    for number in [96, 64 * 400, 1, 0, 16, 0] {
+        push_u16(&mut bytes, number)?;
     }
-    for c in 0..64 {
-        for d in 0..400 {
-            for b in [low(c), 0, low(d), high(d), 9, 0, 0, 0] {
-                bytes.push(b)?;
+    bytes.extend_from_slice(&ROW_OFFSET.to_le_bytes())?;
+    for category in 0..64 {
+        for day in 0..400 {
+            for number in [category, day, 9, 0] {
+                push_u16(&mut bytes, number)?;
             }
         }
     }
     for _ in 0..96 {
-        bytes.push(7)?;
-        bytes.push(0)?;
+        push_u16(&mut bytes, 7)?;
     }
     Ok(bytes)
 }
 
 // The sum of all weights, asked for period by period.
-fn by_period<S: Source>(source: &S) -> u64 {
+fn by_period(source: &impl Source) -> u64 {
     let mut sum: u64 = 0;
-    for c in 0..64 {
-        for d in 0..400 {
-            for p in 0..96 {
-                if let Some(w) = source.weight(c, d, p) {
-                    sum = sum.wrapping_add(u64::from(w));
+    for category in 0..64 {
+        for day in 0..400 {
+            for period in 0..96 {
+                if let Some(weight) = source.weight(CategoryDay { category, day }, period) {
+                    sum = sum.wrapping_add(u64::from(weight));
                 }
             }
         }
@@ -72,13 +55,13 @@ fn by_period<S: Source>(source: &S) -> u64 {
 }
 
 // The sum of all weights, asked for day by day.
-fn by_day<S: Source>(source: &S) -> u64 {
+fn by_day(source: &impl Source) -> u64 {
     let mut sum: u64 = 0;
-    for c in 0..64 {
-        for d in 0..400 {
-            if let Some(shape) = source.shape(c, d) {
-                for w in shape.weights {
-                    sum = sum.wrapping_add(u64::from(w));
+    for category in 0..64 {
+        for day in 0..400 {
+            if let Some(shape) = source.shape(CategoryDay { category, day }) {
+                for weight in shape.weights {
+                    sum = sum.wrapping_add(u64::from(weight));
                 }
             }
         }
@@ -87,15 +70,19 @@ fn by_day<S: Source>(source: &S) -> u64 {
 }
 
 // The nanoseconds that each of so many questions took.
-fn each(rt: HostRuntime, start: Instant, questions: u128) -> anyhow::Result<u128> {
-    Ok(start.elapsed(&rt)?.as_nanos() / questions.max(1))
+fn each(rt: &impl Clock, start: Instant, questions: u128) -> anyhow::Result<u128> {
+    Ok(start.elapsed(rt)?.as_nanos() / questions.max(1))
 }
 
-fn time<S: Source>(rt: HostRuntime, name: &str, source: &S) -> anyhow::Result<()> {
-    let start = Instant::now(&rt)?;
+fn time(
+    rt: &(impl Print + Eprint + Clock),
+    name: &str,
+    source: &impl Source,
+) -> anyhow::Result<()> {
+    let start = Instant::now(rt)?;
     let sum = by_period(source);
     let period = each(rt, start, 64 * 400 * 96)?;
-    let start = Instant::now(&rt)?;
+    let start = Instant::now(rt)?;
     let again = by_day(source);
     let day = each(rt, start, 64 * 400)?;
     println!(rt; "{name}: weights add to {sum} by period and {again} by day")?;
@@ -103,7 +90,11 @@ fn time<S: Source>(rt: HostRuntime, name: &str, source: &S) -> anyhow::Result<()
     Ok(())
 }
 
-fn time_layers(rt: HostRuntime, table: ShapeTable, even: EvenSource) -> anyhow::Result<()> {
+fn time_layers(
+    rt: &(impl Print + Eprint + Clock),
+    table: ShapeTable,
+    even: EvenSource,
+) -> anyhow::Result<()> {
     let enough = DeMinimis::new(table, 3);
     time(rt, "table", &table)?;
     time(rt, "de-minimis layer over it", &enough)?;
@@ -126,7 +117,7 @@ fn main(rt: HostRuntime) -> anyhow::Result<()> {
         println!(rt; "no table: {fault}")?;
     }
     match EvenSource::new(96) {
-        Ok(even) => time_layers(rt, table, even),
+        Ok(even) => time_layers(&rt, table, even),
         Err(fault) => {
             println!(rt; "no even source: {fault}")?;
             Ok(())
