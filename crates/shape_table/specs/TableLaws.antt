@@ -72,6 +72,12 @@ pub entry_of_below : (bytes : List ℕ) (at : CategoryDay) (entry : ℕ) → ent
 unfolding entry_of
 entry_of_below bytes at entry e = (first_that_is (of_day bytes at) (header_of bytes).entries entry e).0
 
+beyond_category : (at : CategoryDay) → 64 ≤ at.category → is_within_bounds at ≡ false
+beyond_category at l = grind (arith, nat_tests)
+
+beyond_day : (at : CategoryDay) → 400 ≤ at.day → is_within_bounds at ≡ false
+beyond_day at l = grind (arith, nat_tests)
+
 -- No entry is out of range.
 other_day : (own at : CategoryDay) → own.category < 64 → own.day < 400 → is_within_bounds at ≡ false → (own.category == at.category && own.day == at.day) ≡ false
 other_day own at c d h = grind (arith, nat_tests)
@@ -95,6 +101,6 @@ table_lawful bytes b h =
     record {
       day_periods = either_periods (header_of bytes).periods s.periods;
       well_formed = λ at t e. found_well_formed bytes b s (entry_of bytes at) (entry_of_below bytes at) t e;
-      no_category = λ at l. rw (none_beyond bytes s at (grind (arith, nat_tests)));
-      no_day = λ at l. rw (none_beyond bytes s at (grind (arith, nat_tests)));
+      no_category = λ at l. rw (none_beyond bytes s at (beyond_category at l));
+      no_day = λ at l. rw (none_beyond bytes s at (beyond_day at l));
     }
