@@ -40,7 +40,8 @@ impl fmt::Display for Layer {
     }
 }
 
-// A fault as it is listed for a caller. The place is 0 where a fault names none.
+// A fault as it is listed for a caller. The place is 0 where a fault names none. The number stays a number, and no
+// enum: it is the one by which records and other programs know the fault.
 #[derive(Clone, Copy, PartialEq, Eq, Debug)]
 pub struct Listing {
     pub number: u8,
@@ -81,7 +82,8 @@ pub trait Fault: Copy {
 
     ghost reason: { Self → List ℕ };
 
-    // Number, layer and place of the fault.
+    // Number, layer and place of the fault. A `From` would not be plainer: the promise is the ghost member above, which
+    // every fault gives beside its words.
     fn listing(self) -> Listing
         ensures { result ≡ listed self };
 

@@ -52,6 +52,7 @@ impl<'a> Register for CodeDisc<'a> {
         1
     }
 
+    // `as` here and below, since std has no `From` between usize and u64
     fn take(&self, numbers: &[u64]) -> Result<u64, RegisterFault> {
         one_number(numbers, self.marks.len() as u64)
     }

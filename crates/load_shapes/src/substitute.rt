@@ -11,6 +11,8 @@ use crate::day::{CategoryDay, DayShape};
 use crate::fault::SourceFault;
 use crate::source::Source;
 
+// Two values, as in a pair of registers. What is said of the two differs, and a type for both crates would only have to
+// be taken off again.
 #[derive(Clone, Copy, Drop)]
 pub struct Substitute<S, T> {
     first: S,

@@ -19,25 +19,30 @@ fn print_taken<R: Register<Reading = u64>>(
     }
 }
 
-// A dial of three digits, and the numbers around its edge.
-fn print_dial(rt: &impl Print, dial: &Dial) -> io::Result<()> {
-    print_taken(rt, "dial", dial, &[])?;
-    print_taken(rt, "dial", dial, &[1, 2])?;
-    print_taken(rt, "dial", dial, &[0])?;
-    print_taken(rt, "dial", dial, &[999])?;
-    print_taken(rt, "dial", dial, &[1_000])?;
-    print_taken(rt, "dial", dial, &[u64::MAX])
+fn print_lists<R: Register<Reading = u64>>(
+    rt: &impl Print,
+    name: &str,
+    register: &R,
+    lists: &[&[u64]],
+) -> io::Result<()> {
+    for numbers in lists {
+        print_taken(rt, name, register, numbers)?;
+    }
+    Ok(())
 }
 
-// The same from afar.
-fn print_remote(rt: &impl Print, remote: &RemoteDial) -> io::Result<()> {
-    print_taken(rt, "remote dial", remote, &[])?;
-    print_taken(rt, "remote dial", remote, &[1, 2])?;
-    print_taken(rt, "remote dial", remote, &[1_000])?;
-    print_taken(rt, "remote dial", remote, &[999_999_999_999])?;
-    print_taken(rt, "remote dial", remote, &[1_000_000_000_000])?;
-    print_taken(rt, "remote dial", remote, &[u64::MAX])
-}
+// The edge of a dial of three digits.
+const AT_EDGE: [&[u64]; 6] = [&[], &[1, 2], &[0], &[999], &[1_000], &[u64::MAX]];
+
+// The edge of what is taken from afar.
+const AT_FAR_EDGE: [&[u64]; 6] = [
+    &[],
+    &[1, 2],
+    &[1_000],
+    &[999_999_999_999],
+    &[1_000_000_000_000],
+    &[u64::MAX],
+];
 
 // What a register keeps that no list gives has no advance.
 fn print_advance<R: Register<Reading = u64>>(
@@ -89,8 +94,8 @@ fn make_dials() -> Result<(Dial, RemoteDial), RegisterFault> {
 fn print_dials(rt: &impl Print) -> io::Result<()> {
     match make_dials() {
         Ok((dial, remote)) => {
-            print_dial(rt, &dial)?;
-            print_remote(rt, &remote)?;
+            print_lists(rt, "dial", &dial, &AT_EDGE)?;
+            print_lists(rt, "remote dial", &remote, &AT_FAR_EDGE)?;
             print_advance(rt, "dial", &dial, 999, 0)?;
             print_advance(rt, "dial", &dial, 1_000, 0)?;
             print_advance(rt, "remote dial", &remote, 0, 1_000)

@@ -50,7 +50,8 @@ pub trait Register {
         }
     }
 
-    // The energy from one kept reading to another, in Wh, and 0 where either is one that no list gives.
+    // The energy from one kept reading to another, in Wh, and 0 where either is one that no list gives. The two readings
+    // stay two: a struct of both would be made for this question alone, and taken apart in it.
     fn advance(&self, from: Self::Reading, to: Self::Reading) -> u64
         ensures { result ≡ (meaning self.now).advance from to };
 }

@@ -12,6 +12,8 @@ use crate::register::Register;
 // A number from afar has at most 12 digits.
 const LIMIT: u64 = 1_000_000_000_000;
 
+// No twin of a dial to be made one with it by a limit: the lists that it takes and what it keeps of them are its own, and
+// the rest it hands on.
 #[derive(Clone, Copy)]
 pub struct RemoteDial {
     dial: Dial,

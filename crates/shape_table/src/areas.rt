@@ -59,7 +59,7 @@ impl<'a> Areas<'a> {
         ensures entries { map (λ entry. entry_in entry 0) result.now ≡ index self.now.bytes.now }
         ensures count { length result.now ≡ (header_of self.now.bytes.now).entries }
     {
-        let start = self.header.index_offset as usize;
+        let start = self.header.index_offset as usize; // std has no `From` for it
         chunks(self.bytes, start, usize::from(self.header.entries))
     }
 

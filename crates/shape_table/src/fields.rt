@@ -54,6 +54,7 @@ impl Header {
     fn places_areas(self, len: usize) -> bool
         ensures { result ≡ areas_placed self len }
     {
+        // `as`, since std has no `From` of a u32 to a usize
         let index_offset = self.index_offset as usize;
         let row_offset = self.row_offset as usize;
         let weights = usize::from(self.rows) * usize::from(self.periods);

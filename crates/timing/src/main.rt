@@ -15,6 +15,7 @@ use std::time::Instant;
 // Where the one row starts: after the header of 16 bytes, and 8 bytes for the entry of each category and day.
 const ROW_OFFSET: u32 = 16 + 8 * 64 * 400;
 
+// One line, as in the trials of shapes: programs can't share it but by a library.
 fn push_u16(bytes: &mut Vec<u8>, number: u16) -> Result<(), AllocError> {
     bytes.extend_from_slice(&number.to_le_bytes())
 }
