@@ -59,7 +59,8 @@ impl<'a> Areas<'a> {
         ensures entries { map (λ entry. entry_in entry 0) result.now ≡ index self.now.bytes.now }
         ensures count { length result.now ≡ (header_of self.now.bytes.now).entries }
     {
-        let start = self.header.index_offset as usize; // std has no `From` for it
+        // `as`, since std has no `From` of a u32 to a usize
+        let start = self.header.index_offset as usize;
         chunks(self.bytes, start, usize::from(self.header.entries))
     }
 
@@ -69,6 +70,7 @@ impl<'a> Areas<'a> {
         ensures { map (λ weight. u16_at weight 0) result.now ≡ row_weights self.now.bytes.now row }
     {
         let periods = usize::from(self.header.periods);
+        // `as`, as above
         let start = self.header.row_offset as usize + 2 * (usize::from(row) * periods);
         chunks(self.bytes, start, periods)
     }

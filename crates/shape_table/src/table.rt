@@ -15,85 +15,73 @@ use load_shapes::fault::SourceFault;
 use load_shapes::source::Source;
 use std::array;
 
-// Bytes that were found to be a table.
+// The areas of bytes that were found to be a table.
 #[derive(Clone, Copy)]
 pub struct ShapeTable<'a> {
-    bytes: &'a [u8],
-    ghost octets: { Bytes bytes.now },
-    ghost checked: { is_some (table_fault bytes.now) ≡ false },
+    areas: Areas<'a>,
+    ghost octets: { Bytes areas.bytes.now },
+    ghost checked: { is_some (table_fault areas.bytes.now) ≡ false },
 }
 
 // The header of a table of 48 periods with no entry and no row.
 const EMPTY: [u8; 16] = [48, 0, 0, 0, 0, 0, 0, 0, 16, 0, 0, 0, 16, 0, 0, 0];
 
-// Whether bytes are a table, and if not, why: the first fault that fits.
-fn check(bytes: &[u8]) -> Result<(), SourceFault>
-    ensures { result_err result ≡ table_fault bytes.now }
-{
-    Areas::find(bytes)?.check()
-}
-
 impl<'a> ShapeTable<'a> {
     // The built-in table, which has no shape for any day.
     pub fn empty() -> ShapeTable<'a>
-        ensures periods { (table_meaning result.bytes.now).periods ≡ 48 }
-        ensures shapes { (at : CategoryDay) → (table_meaning result.bytes.now).shape at ≡ None }
+        ensures periods { (table_meaning result.areas.bytes.now).periods ≡ 48 }
+        ensures shapes { (at : CategoryDay) → (table_meaning result.areas.bytes.now).shape at ≡ None }
     {
-        ShapeTable { bytes: &EMPTY }
+        ShapeTable {
+            areas: Areas {
+                header: Header::from(EMPTY),
+                bytes: &EMPTY,
+            },
+        }
     }
 
     // Puts the table that lies in these bytes into the place of this one. Where they hold none, this one stays.
     pub fn open(&mut self, bytes: &'a [u8]) -> Result<(), SourceFault>
         ensures fault { result_err result ≡ table_fault bytes.now }
         ensures refusal { refusal listed result ≡ option_map listed (table_fault bytes.now) }
-        ensures meaning { OnOk result (table_meaning self.new.bytes.now ≡ table_meaning bytes.now) }
+        ensures meaning { OnOk result (table_meaning self.new.areas.bytes.now ≡ table_meaning bytes.now) }
         ensures entries { OnOk result (TellsItsEntries bytes.now) }
-        ensures place { MatchResult result (λ _. self.new.bytes.now ≡ bytes.now) (λ _. self.new ≡ self.old) }
+        ensures place { MatchResult result (λ _. self.new.areas.bytes.now ≡ bytes.now) (λ _. self.new ≡ self.old) }
     {
-        check(bytes)?;
-        self.bytes = bytes;
+        let areas = Areas::find(bytes)?;
+        areas.check()?;
+        self.areas = areas;
         Ok(())
-    }
-
-    // The areas, which the check found.
-    fn areas(&self) -> Areas<'a>
-        ensures { result.bytes.now ≡ self.now.bytes.now }
-    {
-        let first: &[u8; 16] = self.bytes.first_chunk().unwrap();
-        Areas {
-            header: Header::from(*first),
-            bytes: self.bytes,
-        }
     }
 
     // The place of the entry of a category's day, if there is one. Entries rise, so that halves of the index can be
     // left out.
     fn find_place(&self, at: CategoryDay) -> Option<usize>
-        ensures { result ≡ entry_of self.now.bytes.now at }
+        ensures { result ≡ entry_of self.now.areas.bytes.now at }
     {
-        let index = self.areas().index();
-        index
+        self.areas
+            .index()
             .binary_search_by_key(&at, |entry| IndexEntry::from(*entry).at)
             .ok()
     }
 
     // The entry of a category's day, if there is one.
     fn find_entry(&self, at: CategoryDay) -> Option<IndexEntry>
-        ensures entry { result ≡ option_map (entry_at self.now.bytes.now) (entry_of self.now.bytes.now at) }
-        ensures row { IfSome result (λ entry. entry.row < (header_of self.now.bytes.now).rows) }
+        ensures entry { result ≡ option_map (entry_at self.now.areas.bytes.now) (entry_of self.now.areas.bytes.now at) }
+        ensures row { IfSome result (λ entry. entry.row < (header_of self.now.areas.bytes.now).rows) }
     {
         let place = self.find_place(at)?;
-        Some(self.areas().entry(place))
+        Some(self.areas.entry(place))
     }
 }
 
 impl<'a> Source for ShapeTable<'a> {
-    ghost meaning = { λ t. table_meaning t.bytes.now };
+    ghost meaning = { λ t. table_meaning t.areas.bytes.now };
 
-    ghost lawful = { λ t. table_lawful t.bytes.now t.octets t.checked };
+    ghost lawful = { λ t. table_lawful t.areas.bytes.now t.octets t.checked };
 
     fn periods(&self) -> usize {
-        usize::from(self.areas().header.periods)
+        usize::from(self.areas.header.periods)
     }
 
     fn count(&self, at: CategoryDay) -> Option<u16> {
@@ -103,13 +91,13 @@ impl<'a> Source for ShapeTable<'a> {
 
     fn weight(&self, at: CategoryDay, period: usize) -> Option<u16> {
         let entry = self.find_entry(at)?;
-        weight_of(self.areas().row(entry.row), period)
+        weight_of(self.areas.row(entry.row), period)
     }
 
     // One search for the whole day.
     fn shape(&self, at: CategoryDay) -> Option<DayShape> {
         let IndexEntry { count, row, .. } = self.find_entry(at)?;
-        let row = self.areas().row(row);
+        let row = self.areas.row(row);
         let weights = array::from_fn(|period| weight_of(row, period).unwrap_or(0));
         Some(DayShape { count, weights })
     }

@@ -9,12 +9,12 @@ use Rattle.shape_table.proofs.table.ShapeTableSource.shape.Goals as goal
 
 pub returns : goal.returns
 returns c =
-    let bytes = c.args.self.now.bytes.now in
+    let bytes = c.args.self.now.areas.bytes.now in
     let o = (table_meaning bytes).shape c.args.at in
     let entry = c.in_ok-count.field-0 in
     let made = c.from_fn-weights.ensures.items in
     let told : Some entry.count ≡ count_of o = search rules in
-    let read : map (λ weight. u16_at weight 0) c.row-row.result.now ≡ row_weights bytes entry.row = c.row-row.ensures ∙ ap (λ b. row_weights b entry.row) c.areas.ensures in
+    let read : map (λ weight. u16_at weight 0) c.row-row.result.now ≡ row_weights bytes entry.row = c.row-row.ensures in
     let weight : (k : _) → slice_get (map (λ weight. u16_at weight 0) c.row-row.result.now) k ≡ weight_of o k =
     λ k. ap (λ xs. slice_get xs k) read ∙ found_weight bytes (entry_of bytes c.args.at) entry c.in_ok-count.ensures.entry k in
     asked_each o entry.count c.from_fn-weights.result told made.long
