@@ -1,5 +1,5 @@
 -- What is read of the index and of a row, place by place.
-use Rattle.std.proofs.Common.{◌≡◌, ℕ, ◌<◌, nat_le, List, map, length, get_or, slice_get, Some, None, Option, sym, ap, ◌∙◌, zero-add, arith}
+use Rattle.std.proofs.Common.{◌≡◌, ℕ, ◌<◌, nat_le, List, map, length, get_or, slice_get, is_some, false, ◌≤◌, Some, None, Option, sym, ap, ◌∙◌, zero-add, arith}
 use Rattle.std.specs.List.{list_all, range_with_len}
 use Rattle.std.proofs.lemmas.List.{get_or-map}
 use Rattle.std.proofs.lemmas.List.FromFn.{get_or-map-range_with_len}
@@ -7,7 +7,9 @@ use Rattle.std.proofs.lemmas.List.Folds.{list_all-map}
 use Rattle.std.specs.Option.{option_map}
 use Rattle.load_shapes.specs.Meaning.{weight_of}
 use Rattle.shape_table.specs.declared.fields.IndexEntry.{IndexEntry}
-use Rattle.shape_table.specs.Layout.{u16_at, header_of, entry_in, entry_at, index, row_weight, row_weights, row_right, entry_shape}
+use Rattle.shape_table.specs.Layout.{u16_at, header_of, entry_in, entry_at, index, row_weight, row_weights, row_right, entry_shape, table_fault}
+use Rattle.shape_table.specs.TableLaws.{sound}
+use Rattle.std.proofs.lemmas.Bool.Decides.{nat_tests}
 
 pub entry_read : (bytes : List ℕ) (entries : List (List ℕ)) (place : ℕ) (d : List ℕ) → map (λ entry. entry_in entry 0) entries ≡ index bytes
     → length entries ≡ (header_of bytes).entries → place < (header_of bytes).entries → entry_in (get_or entries place d) 0 ≡ entry_at bytes place
@@ -30,3 +32,7 @@ pub found_weight : (bytes : List ℕ) (place : Option ℕ) (entry : IndexEntry) 
 found_weight bytes None entry e period = absurd (cc)
 found_weight bytes (Some place) entry e period =
     let same : entry ≡ entry_at bytes place = cc in ap (λ (x : IndexEntry). slice_get (row_weights bytes x.row) period) same
+
+-- A day has at most 96 periods.
+pub day_most : (bytes : List ℕ) → is_some (table_fault bytes) ≡ false → (header_of bytes).periods ≤ 96
+day_most bytes h = let s = (sound bytes h).periods in grind (arith, nat_tests)

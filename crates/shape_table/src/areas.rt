@@ -4,7 +4,7 @@ ghost use Rattle.std.specs.Prelude.{◌≡◌, ◌+◌, ◌*◌, ◌<◌, ◌≤
 ghost use Rattle.std.specs.List.{list_all};
 ghost use Rattle.std.specs.Result.{result_err};
 ghost use Rattle.std.specs.Simd.{first_chunks};
-ghost use Rattle.shape_table.specs.Layout.{u16_at, header_of, entry_in, entry_at, index, row_weights, Placed, entry_above_last, entry_right, row_right, first_wrong_entry, first_wrong_row, areas_fault, contents_fault};
+ghost use Rattle.shape_table.specs.Layout.{u16_at, header_of, entry_in, entry_at, index, row_weights, Placed, entry_right, row_right, first_wrong_entry, first_wrong_row, areas_fault, contents_fault};
 
 use crate::fields::{Header, IndexEntry, weight_in};
 use load_shapes::fault::SourceFault;
@@ -67,7 +67,8 @@ impl<'a> Areas<'a> {
     // The weights of a row, two bytes each.
     pub(crate) fn row(&self, row: u16) -> &'a [[u8; 2]]
         requires { row < (header_of self.now.bytes.now).rows }
-        ensures { map (λ weight. u16_at weight 0) result.now ≡ row_weights self.now.bytes.now row }
+        ensures weights { map (λ weight. u16_at weight 0) result.now ≡ row_weights self.now.bytes.now row }
+        ensures count { length result.now ≡ (header_of self.now.bytes.now).periods }
     {
         let periods = usize::from(self.header.periods);
         // `as`, as above
@@ -83,20 +84,13 @@ impl<'a> Areas<'a> {
         IndexEntry::from(self.index()[place])
     }
 
-    // Whether an entry is above the one before it, if there is one.
-    fn is_entry_above_last(&self, place: usize) -> bool
-        requires { place < (header_of self.now.bytes.now).entries }
-        ensures { result ≡ entry_above_last self.now.bytes.now place }
-    {
-        place == 0 || self.entry(place - 1).at < self.entry(place).at
-    }
-
-    // Whether an entry is in range and above the one before.
+    // Whether an entry is in range and above the one before, if there is one.
     fn is_entry_right(&self, place: usize) -> bool
         requires { place < (header_of self.now.bytes.now).entries }
         ensures { result ≡ entry_right self.now.bytes.now place }
     {
-        self.entry(place).is_in_range(self.header.rows) && self.is_entry_above_last(place)
+        let entry = self.entry(place);
+        entry.is_in_range(self.header.rows) && (place == 0 || self.entry(place - 1).at < entry.at)
     }
 
     // The first entry that is out of range, or not above the one before.
