@@ -15,27 +15,22 @@ use std::time::Instant;
 // Where the one row starts: after the header of 16 bytes, and 8 bytes for the entry of each category and day.
 const ROW_OFFSET: u32 = 16 + 8 * 64 * 400;
 
-// One line, as in the trials of shapes: programs can't share it but by a library.
-fn push_u16(bytes: &mut Vec<u8>, number: u16) -> Result<(), AllocError> {
-    bytes.extend_from_slice(&number.to_le_bytes())
-}
-
 // 96 periods, and an entry for each of 64 categories and 400 days, which share a row.
 fn build(heap: Global) -> Result<Vec<u8>, AllocError> {
     let mut bytes = Vec::new(heap);
-    for number in [96, 64 * 400, 1, 0, 16, 0] {
-        push_u16(&mut bytes, number)?;
+    for number in [96u16, 64 * 400, 1, 0, 16, 0] {
+        bytes.extend_from_slice(&number.to_le_bytes())?;
     }
     bytes.extend_from_slice(&ROW_OFFSET.to_le_bytes())?;
     for category in 0..64 {
         for day in 0..400 {
-            for number in [category, day, 9, 0] {
-                push_u16(&mut bytes, number)?;
+            for number in [category, day, 9, 0u16] {
+                bytes.extend_from_slice(&number.to_le_bytes())?;
             }
         }
     }
     for _ in 0..96 {
-        push_u16(&mut bytes, 7)?;
+        bytes.extend_from_slice(&7u16.to_le_bytes())?;
     }
     Ok(bytes)
 }
