@@ -16,7 +16,7 @@ pub enum Layer {
 }
 
 impl Layer {
-    // The layer that a fault's number belongs to.
+    // The layer that a fault's number belongs to. No `From`, since a layer is not the number in another form.
     pub fn of(number: u8) -> Layer
         ensures { result ≡ layer_of number }
     {
@@ -40,8 +40,8 @@ impl fmt::Display for Layer {
     }
 }
 
-// A fault as it is listed for a caller. The place is 0 where a fault names none. The number stays a number, and no
-// enum: it is the one by which records and other programs know the fault.
+// A fault as it is listed for a caller. The place is 0 where a fault names none. Number and place are plain numbers, and
+// no enum and no `Option`: records and other programs know a fault by these two.
 #[derive(Clone, Copy, PartialEq, Eq, Debug)]
 pub struct Listing {
     pub number: u8,

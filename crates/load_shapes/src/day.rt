@@ -1,6 +1,6 @@
 // A day of one category, and the whole shape of such a day.
 ghost use Rattle.std.specs.Prelude.{◌≡◌};
-ghost use Rattle.load_shapes.specs.Meaning.{is_within_bounds};
+ghost use Rattle.load_shapes.specs.Meaning.{is_within_bounds, may_have_periods};
 
 // A day of a category of metering systems. A lower category comes first, and in one category an earlier day.
 #[derive(Clone, Copy, PartialEq, Eq, PartialOrd, Ord, Debug)]
@@ -18,8 +18,16 @@ impl CategoryDay {
     }
 }
 
+// Whether a day may have so many periods: 48 or 96.
+pub fn may_have_periods(periods: usize) -> bool
+    ensures { result ≡ may_have_periods periods }
+{
+    periods == 48 || periods == 96
+}
+
 // A data count, and a weight at each period of the day. The places past the day's periods hold 0. They are 96 whatever
-// the day, since a question declines nothing, and memory from the heap can run out.
+// the day: a question declines nothing, so no `Vec`, for which memory can run out, and an answer is `Copy`, so no
+// buffer that keeps its own length.
 #[derive(Clone, Copy)]
 pub struct DayShape {
     pub count: u16,

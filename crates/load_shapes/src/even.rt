@@ -8,7 +8,7 @@ ghost use Rattle.load_shapes.specs.Faults.{listed};
 ghost use Rattle.load_shapes.specs.Even.{even_meaning, even_fault};
 ghost use Rattle.load_shapes.specs.EvenLaws.{even_lawful};
 
-use crate::day::CategoryDay;
+use crate::day::{CategoryDay, may_have_periods};
 use crate::fault::SourceFault;
 use crate::source::Source;
 
@@ -25,7 +25,7 @@ impl EvenSource {
         ensures refusal { refusal listed result ≡ option_map listed (even_fault periods) }
         ensures made { IfOk result (λ s. s.periods ≡ periods) }
     {
-        if periods == 48 || periods == 96 {
+        if may_have_periods(periods) {
             Ok(EvenSource { periods })
         } else {
             Err(SourceFault::Periods)

@@ -6,6 +6,9 @@ ghost use Rattle.load_shapes.specs.Days.{day_shape_of};
 use crate::day::{CategoryDay, DayShape};
 use std::array;
 
+// No weight is larger.
+pub const MOST_WEIGHT: u16 = 10_000;
+
 // A source is what its meaning says and shows the laws. Its questions alter nothing, are answered alike each time, and
 // decline nothing. A source of your own gives the two ghost members and the first three answers.
 pub trait Source {

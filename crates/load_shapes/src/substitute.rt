@@ -11,8 +11,8 @@ use crate::day::{CategoryDay, DayShape};
 use crate::fault::SourceFault;
 use crate::source::Source;
 
-// Two values, as in a pair of registers. What is said of the two differs, and a type for both crates would only have to
-// be taken off again.
+// Two sources in one value, as a `Pair` has two registers. It stays a type of its own: its check and its meaning are
+// others, and neither crate stands on the other.
 #[derive(Clone, Copy, Drop)]
 pub struct Substitute<S, T> {
     first: S,

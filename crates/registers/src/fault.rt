@@ -3,7 +3,8 @@ ghost use Rattle.std.specs.Prelude.{◌≡◌, ◌≤◌, ◌<◌, Some};
 ghost use Rattle.faults.specs.Listings.{fault_text};
 ghost use Rattle.registers.specs.Faults.{listed, reason, counted_on};
 
-use faults::{Fault, Listing};
+pub use faults::Fault;
+use faults::Listing;
 use std::error::Error;
 use std::fmt;
 

@@ -7,9 +7,7 @@ ghost use Rattle.registers.specs.PairLaws.{pair_lawful};
 
 use crate::bounded;
 use crate::fault::RegisterFault;
-use crate::register::{Extent, Register};
-
-const MOST_ENERGY: u64 = 1_000_000_000_000_000;
+use crate::register::{Extent, MOST_ENERGY, Register};
 
 const MOST_DIALS: usize = 64;
 

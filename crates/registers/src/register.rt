@@ -6,6 +6,9 @@ ghost use Rattle.registers.specs.Faults.{told};
 
 use crate::fault::RegisterFault;
 
+// No register has a larger full scale, in Wh.
+pub const MOST_ENERGY: u64 = 1_000_000_000_000_000;
+
 // How large a register is: its dials, and its full scale in Wh.
 #[derive(Clone, Copy, PartialEq, Eq, Debug)]
 pub struct Extent {

@@ -12,8 +12,8 @@ use crate::register::Register;
 // A number from afar has at most 12 digits.
 const LIMIT: u64 = 1_000_000_000_000;
 
-// No twin of a dial to be made one with it by a limit: the lists that it takes and what it keeps of them are its own, and
-// the rest it hands on.
+// It stays a type beside `Dial`. One type for both would have a limit as a field, which a dial's digits give already and
+// four of the five answers never read.
 #[derive(Clone, Copy)]
 pub struct RemoteDial {
     dial: Dial,
