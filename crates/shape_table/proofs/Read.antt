@@ -1,15 +1,14 @@
 -- What is read of the index and of a row, place by place.
-use Rattle.std.proofs.Common.{◌≡◌, ℕ, ◌<◌, nat_le, List, map, length, get_or, slice_get, is_some, false, ◌≤◌, Some, None, Option, sym, ap, ◌∙◌, zero-add, arith}
+use Rattle.std.proofs.Common.{◌≡◌, ℕ, ◌<◌, ◌≤◌, false, nat_le, List, map, length, get_or, is_some, Some, sym, ap, ◌∙◌, ⊎_elim, zero-add, arith}
 use Rattle.std.specs.List.{list_all, range_with_len}
-use Rattle.std.proofs.lemmas.List.{get_or-map}
+use Rattle.std.proofs.lemmas.List.{get_or-map, length-map}
 use Rattle.std.proofs.lemmas.List.FromFn.{get_or-map-range_with_len}
 use Rattle.std.proofs.lemmas.List.Folds.{list_all-map}
-use Rattle.std.specs.Option.{option_map}
-use Rattle.load_shapes.specs.Meaning.{weight_of}
-use Rattle.shape_table.specs.declared.fields.IndexEntry.{IndexEntry}
-use Rattle.shape_table.specs.Layout.{u16_at, header_of, entry_in, entry_at, index, row_weight, row_weights, row_right, entry_shape, table_fault}
-use Rattle.shape_table.specs.TableLaws.{sound}
-use Rattle.std.proofs.lemmas.Bool.Decides.{nat_tests}
+use Rattle.load_shapes.specs.declared.day.CategoryDay.{CategoryDay}
+use Rattle.shape_table.specs.declared.shape.ShapeInPlace.{ShapeInPlace}
+use Rattle.shape_table.specs.InPlace.{shape_in}
+use Rattle.shape_table.specs.Layout.{Bytes, u16_at, header_of, entry_in, entry_at, index, row_weight, row_weights, row_right, table_fault, table_meaning}
+use Rattle.shape_table.specs.TableLaws.{table_lawful}
 
 pub entry_read : (bytes : List ℕ) (entries : List (List ℕ)) (place : ℕ) (d : List ℕ) → map (λ entry. entry_in entry 0) entries ≡ index bytes
     → length entries ≡ (header_of bytes).entries → place < (header_of bytes).entries → entry_in (get_or entries place d) 0 ≡ entry_at bytes place
@@ -26,13 +25,11 @@ row_light bytes row weights e =
     ∙ ap (list_all (λ w. nat_le w 10000)) e
     ∙ list_all-map (λ w. nat_le w 10000) (row_weight bytes row) (range_with_len 0 (header_of bytes).periods)
 
--- The weights of the row that a day's entry names are those of the day's shape.
-pub found_weight : (bytes : List ℕ) (place : Option ℕ) (entry : IndexEntry) → Some entry ≡ option_map (entry_at bytes) place
-    → (period : ℕ) → slice_get (row_weights bytes entry.row) period ≡ weight_of (option_map (entry_shape bytes) place) period
-found_weight bytes None entry e period = absurd (cc)
-found_weight bytes (Some place) entry e period =
-    let same : entry ≡ entry_at bytes place = cc in ap (λ (x : IndexEntry). slice_get (row_weights bytes x.row) period) same
-
--- A day has at most 96 periods.
-pub day_most : (bytes : List ℕ) → is_some (table_fault bytes) ≡ false → (header_of bytes).periods ≤ 96
-day_most bytes h = let s = (sound bytes h).periods in grind (arith, nat_tests)
+-- A row that was found has at most 96 weights.
+pub row_most : (bytes : List ℕ) → Bytes bytes → is_some (table_fault bytes) ≡ false → (at : CategoryDay) (found : ShapeInPlace) → Some (shape_in found) ≡ (table_meaning bytes).shape at → length found.row.now ≤ 96
+row_most bytes b h at found e =
+    let laws = table_lawful bytes b h in
+    let each = (laws.well_formed at (shape_in found) (sym e)).one_weight_each in
+    let size = length-map found.row.now (λ weight. u16_at weight 0) in
+    let most : (table_meaning bytes).periods ≤ 96 = ⊎_elim (λ p. omega arith) (λ p. omega arith) laws.day_periods in
+    omega arith

@@ -1,6 +1,6 @@
 // The areas of a table, read where they lie in its bytes: the header, the index, and the rows of weights. Nothing
 // outside the bytes is read, whatever they hold.
-ghost use Rattle.std.specs.Prelude.{◌≡◌, ◌+◌, ◌*◌, ◌<◌, ◌≤◌, IfOk, map, length, take, drop, nat_le, slice_get};
+ghost use Rattle.std.specs.Prelude.{◌≡◌, ◌+◌, ◌*◌, ◌<◌, ◌≤◌, IfOk, map, length, take, drop, nat_le};
 ghost use Rattle.std.specs.List.{list_all};
 ghost use Rattle.std.specs.Result.{result_err};
 ghost use Rattle.std.specs.Simd.{first_chunks};
@@ -8,6 +8,7 @@ ghost use Rattle.shape_table.specs.Layout.{u16_at, header_of, entry_in, entry_at
 
 use crate::fields::{Header, IndexEntry, weight_in};
 use load_shapes::fault::SourceFault;
+use load_shapes::source::MOST_WEIGHT;
 
 // Bytes that begin with a header, and whose index and rows lie where they must.
 #[derive(Clone, Copy)]
@@ -28,38 +29,33 @@ fn chunks<const N: usize>(bytes: &[u8], start: usize, count: usize) -> &[[u8; N]
     bytes[start..start + count * N].as_chunks().0
 }
 
-// The weight of a period, if a row has the period.
-pub(crate) fn weight_of(row: &[[u8; 2]], period: usize) -> Option<u16>
-    ensures { result ≡ slice_get (map (λ weight. u16_at weight 0) row.now) period }
-{
-    row.get(period).map(|weight| weight_in(*weight))
-}
-
 // Whether no weight is above 10,000.
 fn are_light(weights: &[[u8; 2]]) -> bool
     ensures { result ≡ list_all (λ weight. nat_le (u16_at weight 0) 10000) weights.now }
 {
-    weights.iter().all(|weight| weight_in(*weight) <= 10_000)
+    weights.iter().all(|weight| weight_in(*weight) <= MOST_WEIGHT)
 }
 
-impl<'a> Areas<'a> {
-    // The areas of bytes, or why they have none.
-    pub(crate) fn find(bytes: &'a [u8]) -> Result<Areas<'a>, SourceFault>
-        ensures fault { result_err result ≡ areas_fault bytes.now }
-        ensures made { IfOk result (λ areas. areas.bytes.now ≡ bytes.now) }
-    {
+impl<'a> TryFrom<&'a [u8]> for Areas<'a> {
+    type Error = SourceFault;
+
+    ghost try_from_gives = { λ bytes result. (result_err result ≡ areas_fault bytes.now) × IfOk result (λ areas. areas.bytes.now ≡ bytes.now) };
+
+    fn try_from(bytes: &'a [u8]) -> Result<Areas<'a>, SourceFault> {
         let first: &[u8; 16] = bytes.first_chunk().ok_or(SourceFault::TooShort)?;
         let header = Header::from(*first);
         header.check(bytes.len())?;
         Ok(Areas { header, bytes })
     }
+}
 
+impl<'a> Areas<'a> {
     // The entries of the index, eight bytes each.
     pub(crate) fn index(&self) -> &'a [[u8; 8]]
         ensures entries { map (λ entry. entry_in entry 0) result.now ≡ index self.now.bytes.now }
         ensures count { length result.now ≡ (header_of self.now.bytes.now).entries }
     {
-        // `as`, since std has no `From` of a u32 to a usize
+        // `as`, here and below: std has no `From` of a u32 to a usize, and `try_from` would have to be unwrapped.
         let start = self.header.index_offset as usize;
         chunks(self.bytes, start, usize::from(self.header.entries))
     }
@@ -71,7 +67,6 @@ impl<'a> Areas<'a> {
         ensures count { length result.now ≡ (header_of self.now.bytes.now).periods }
     {
         let periods = usize::from(self.header.periods);
-        // `as`, as above
         let start = self.header.row_offset as usize + 2 * (usize::from(row) * periods);
         chunks(self.bytes, start, periods)
     }
@@ -117,7 +112,7 @@ impl<'a> Areas<'a> {
         (0..self.header.rows).find(|row| !self.is_row_right(*row))
     }
 
-    // Whether the entries and the rows are right too, and if not, which comes first.
+    // Why the contents are no table's: the first entry that is not right, or else the first such row.
     pub(crate) fn check(&self) -> Result<(), SourceFault>
         ensures { result_err result ≡ contents_fault self.now.bytes.now }
     {

@@ -3,7 +3,7 @@ ghost use Rattle.std.specs.Prelude.{◌≡◌, ◌+◌, ◌≤◌, length};
 ghost use Rattle.std.specs.Result.{result_err};
 ghost use Rattle.shape_table.specs.Layout.{u16_at, u32_at, header_of, entry_in, areas_placed, header_fault, entry_in_range};
 
-use load_shapes::day::CategoryDay;
+use load_shapes::day::{CategoryDay, may_have_periods};
 use load_shapes::fault::SourceFault;
 
 // The number in two bytes, the low byte first.
@@ -14,8 +14,8 @@ fn u16_at(bytes: &[u8], at: usize) -> u16
     u16::from_le_bytes([bytes[at], bytes[at + 1]])
 }
 
-// The number in four bytes, the low byte first. It is no twin to be made one with the last: from_le_bytes belongs to
-// each type of number, and std has no trait for it.
+// The number in four bytes, the low byte first. It stays beside the last: `from_le_bytes` belongs to each type of number.
+// The kit's byteorder has a trait for it, and would be a crate below the core to save neither function.
 fn u32_at(bytes: &[u8], at: usize) -> u32
     requires { at + 4 ≤ length bytes.now }
     ensures { result ≡ u32_at bytes.now at }
@@ -54,7 +54,7 @@ impl Header {
     fn places_areas(self, len: usize) -> bool
         ensures { result ≡ areas_placed self len }
     {
-        // `as`, since std has no `From` of a u32 to a usize
+        // `as`: std has no `From` of a u32 to a usize, and `try_from` would have to be unwrapped.
         let index_offset = self.index_offset as usize;
         let row_offset = self.row_offset as usize;
         let weights = usize::from(self.rows) * usize::from(self.periods);
@@ -67,7 +67,7 @@ impl Header {
     pub(crate) fn check(self, len: usize) -> Result<(), SourceFault>
         ensures { result_err result ≡ header_fault self len }
     {
-        if self.periods != 48 && self.periods != 96 {
+        if !may_have_periods(usize::from(self.periods)) {
             return Err(SourceFault::Periods);
         }
         if self.zero != 0 {

@@ -3,4 +3,5 @@
 
 mod areas;
 mod fields;
+mod shape;
 pub mod table;

@@ -1,15 +1,17 @@
 // A shape table: load shapes, read in place from the bytes that hold them.
-ghost use Rattle.std.specs.Prelude.{◌≡◌, ◌<◌, false, is_some, None, IfSome, MatchResult, OnOk};
+ghost use Rattle.std.specs.Prelude.{◌≡◌, false, is_some, None, MatchResult, OnOk};
 ghost use Rattle.std.specs.Option.{option_map};
 ghost use Rattle.std.specs.Result.{result_err};
 ghost use Rattle.faults.specs.Listings.{refusal};
 ghost use Rattle.load_shapes.specs.Faults.{listed};
-ghost use Rattle.shape_table.specs.Layout.{Bytes, header_of, entry_at, entry_of, table_fault, table_meaning};
+ghost use Rattle.shape_table.specs.Layout.{Bytes, entry_of, table_fault, table_meaning};
 ghost use Rattle.shape_table.specs.TableLaws.{table_lawful};
+ghost use Rattle.shape_table.specs.InPlace.{shape_in};
 ghost use Rattle.shape_table.specs.Told.{TellsItsEntries};
 
-use crate::areas::{Areas, weight_of};
+use crate::areas::Areas;
 use crate::fields::{Header, IndexEntry, weight_in};
+use crate::shape::ShapeInPlace;
 use load_shapes::day::{CategoryDay, DayShape};
 use load_shapes::fault::SourceFault;
 use load_shapes::source::Source;
@@ -47,7 +49,7 @@ impl<'a> ShapeTable<'a> {
         ensures entries { OnOk result (TellsItsEntries bytes.now) }
         ensures place { MatchResult result (λ _. self.new.areas.bytes.now ≡ bytes.now) (λ _. self.new ≡ self.old) }
     {
-        let areas = Areas::find(bytes)?;
+        let areas = Areas::try_from(bytes)?;
         areas.check()?;
         self.areas = areas;
         Ok(())
@@ -64,13 +66,14 @@ impl<'a> ShapeTable<'a> {
             .ok()
     }
 
-    // The entry of a category's day, if there is one.
-    fn find_entry(&self, at: CategoryDay) -> Option<IndexEntry>
-        ensures entry { result ≡ option_map (entry_at self.now.areas.bytes.now) (entry_of self.now.areas.bytes.now at) }
-        ensures row { IfSome result (λ entry. entry.row < (header_of self.now.areas.bytes.now).rows) }
+    // The shape of a category's day, if it has one.
+    fn find(&self, at: CategoryDay) -> Option<ShapeInPlace<'a>>
+        ensures { option_map shape_in result ≡ (table_meaning self.now.areas.bytes.now).shape at }
     {
         let place = self.find_place(at)?;
-        Some(self.areas.entry(place))
+        let IndexEntry { count, row, .. } = self.areas.entry(place);
+        let row = self.areas.row(row);
+        Some(ShapeInPlace { count, row })
     }
 }
 
@@ -84,21 +87,19 @@ impl<'a> Source for ShapeTable<'a> {
     }
 
     fn count(&self, at: CategoryDay) -> Option<u16> {
-        let entry = self.find_entry(at)?;
-        Some(entry.count)
+        self.find(at).map(|shape| shape.count)
     }
 
     fn weight(&self, at: CategoryDay, period: usize) -> Option<u16> {
-        let entry = self.find_entry(at)?;
-        weight_of(self.areas.row(entry.row), period)
+        self.find(at)?.weight(period)
     }
 
     // One search for the whole day.
     fn shape(&self, at: CategoryDay) -> Option<DayShape> {
-        let IndexEntry { count, row, .. } = self.find_entry(at)?;
+        let ShapeInPlace { count, row } = self.find(at)?;
         // `array::from_fn` was tried: it asks at each of the 96 places whether the row has it, and takes twice as long.
         let mut weights = [0; 96];
-        for (period, weight) in self.areas.row(row).iter().enumerate() {
+        for (period, weight) in row.iter().enumerate() {
             weights[period] = weight_in(*weight);
         }
         Some(DayShape { count, weights })

@@ -5,4 +5,4 @@ use Rattle.shape_table.proofs.table.ShapeTableSource.shape.Given as goal
 
 -- the periods so far are written
 abbrev pub invariant-loop-period : goal.invariant-loop-period
-invariant-loop-period l = Filled (map (λ weight. u16_at weight 0) l.weight-items) l.period l.weights
+invariant-loop-period l = Filled (map (λ weight. u16_at weight 0) l.row) l.period l.weights
