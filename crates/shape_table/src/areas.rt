@@ -33,7 +33,9 @@ fn chunks<const N: usize>(bytes: &[u8], start: usize, count: usize) -> &[[u8; N]
 fn are_light(weights: &[[u8; 2]]) -> bool
     ensures { result ≡ list_all (λ weight. nat_le (u16_at weight 0) 10000) weights.now }
 {
-    weights.iter().all(|weight| weight_in(*weight) <= MOST_WEIGHT)
+    weights
+        .iter()
+        .all(|weight| weight_in(*weight) <= MOST_WEIGHT)
 }
 
 impl<'a> TryFrom<&'a [u8]> for Areas<'a> {
@@ -51,6 +53,7 @@ impl<'a> TryFrom<&'a [u8]> for Areas<'a> {
 
 impl<'a> Areas<'a> {
     // The entries of the index, eight bytes each.
+    #[tactic(auto, using(crate::proofs::Copies::index_read))]
     pub(crate) fn index(&self) -> &'a [[u8; 8]]
         ensures entries { map (λ entry. entry_in entry 0) result.now ≡ index self.now.bytes.now }
         ensures count { length result.now ≡ (header_of self.now.bytes.now).entries }
@@ -60,11 +63,12 @@ impl<'a> Areas<'a> {
         chunks(self.bytes, start, usize::from(self.header.entries))
     }
 
-    // The weights of a row, two bytes each.
+    // The weights of a row, two bytes each. A row stays a number: one that knew to be within the table would be made
+    // where an entry is found, and asked for here alone.
+    #[tactic(auto, using(crate::proofs::Copies::row_read))]
     pub(crate) fn row(&self, row: u16) -> &'a [[u8; 2]]
         requires { row < (header_of self.now.bytes.now).rows }
-        ensures weights { map (λ weight. u16_at weight 0) result.now ≡ row_weights self.now.bytes.now row }
-        ensures count { length result.now ≡ (header_of self.now.bytes.now).periods }
+        ensures { map (λ weight. u16_at weight 0) result.now ≡ row_weights self.now.bytes.now row }
     {
         let periods = usize::from(self.header.periods);
         let start = self.header.row_offset as usize + 2 * (usize::from(row) * periods);
@@ -72,6 +76,7 @@ impl<'a> Areas<'a> {
     }
 
     // The entry at a place of the index.
+    #[tactic(auto, using(crate::proofs::Read::entry_read))]
     pub(crate) fn entry(&self, place: usize) -> IndexEntry
         requires { place < (header_of self.now.bytes.now).entries }
         ensures { result ≡ entry_at self.now.bytes.now place }
@@ -97,6 +102,7 @@ impl<'a> Areas<'a> {
     }
 
     // Whether a row has no weight above 10,000.
+    #[tactic(auto, using(crate::proofs::Read::row_light))]
     fn is_row_right(&self, row: u16) -> bool
         requires { row < (header_of self.now.bytes.now).rows }
         ensures { result ≡ row_right self.now.bytes.now row }

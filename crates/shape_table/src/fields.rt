@@ -7,6 +7,7 @@ use load_shapes::day::{CategoryDay, may_have_periods};
 use load_shapes::fault::SourceFault;
 
 // The number in two bytes, the low byte first.
+#[tactic(auto, unfolding(crate::specs::Layout::u16_at))]
 fn u16_at(bytes: &[u8], at: usize) -> u16
     requires { at + 2 ≤ length bytes.now }
     ensures { result ≡ u16_at bytes.now at }
@@ -16,6 +17,7 @@ fn u16_at(bytes: &[u8], at: usize) -> u16
 
 // The number in four bytes, the low byte first. It stays beside the last: `from_le_bytes` belongs to each type of number.
 // The kit's byteorder has a trait for it, and would be a crate below the core to save neither function.
+#[tactic(auto, unfolding(crate::specs::Layout::u16_at, crate::specs::Layout::u32_at))]
 fn u32_at(bytes: &[u8], at: usize) -> u32
     requires { at + 4 ≤ length bytes.now }
     ensures { result ≡ u32_at bytes.now at }

@@ -42,6 +42,7 @@ impl<'a> ShapeTable<'a> {
     }
 
     // Puts the table that lies in these bytes into the place of this one. Where they hold none, this one stays.
+    #[tactic(auto, using(crate::proofs::Search::tells_its_entries))]
     pub fn open(&mut self, bytes: &'a [u8]) -> Result<(), SourceFault>
         ensures fault { result_err result ≡ table_fault bytes.now }
         ensures refusal { refusal listed result ≡ option_map listed (table_fault bytes.now) }

@@ -1,5 +1,5 @@
 -- The weights of the day's row are written into their places.
-use Rattle.std.proofs.Common.{◌≡◌, ◌<◌, ◌≤◌, Some, List, ℕ, map, length, get_or, slice_get, unwrap_or, sym, ap, ◌∙◌, arith}
+use Rattle.std.proofs.Common.{◌≡◌, Some, List, ℕ, map, length, slice_get, unwrap_or, sym, ap, ◌∙◌, arith}
 use Rattle.std.proofs.lemmas.List.{get_or-map, length-map}
 use Rattle.load_shapes.specs.Meaning.{count_of, weight_of}
 use Rattle.load_shapes.proofs.Asked.{asked_each}
