@@ -63,8 +63,8 @@ impl<'a> Areas<'a> {
         chunks(self.bytes, start, usize::from(self.header.entries))
     }
 
-    // The weights of a row, two bytes each. A row stays a number: one that knew to be within the table would be made
-    // where an entry is found, and asked for here alone.
+    // The weights of a row, two bytes each. The row is a plain number: a type for rows that the table has would be made and
+    // used at this one call.
     #[tactic(auto, using(crate::proofs::Copies::row_read))]
     pub(crate) fn row(&self, row: u16) -> &'a [[u8; 2]]
         requires { row < (header_of self.now.bytes.now).rows }
