@@ -4,9 +4,7 @@ ghost use Rattle.fitting.specs.Counter.{counter_meaning, counter_lawful};
 
 use registers::dial::one_number;
 use registers::fault::RegisterFault;
-use registers::register::Register;
-
-const MOST: u64 = 1_000_000_000_000_000;
+use registers::register::{MOST_ENERGY, Register};
 
 // Neither `Drop` nor `Copy`: a register need be neither.
 pub struct Counter {
@@ -20,7 +18,7 @@ impl Counter {
         ensures test { is_some result ≡ nat_le last (10 ^ 15) }
         ensures made { IfSome result (λ counter. counter.last ≡ last) }
     {
-        if last <= MOST {
+        if last <= MOST_ENERGY {
             Some(Counter { last })
         } else {
             None
@@ -59,6 +57,7 @@ impl Register for Counter {
         self.last
     }
 
+    // A dial's steps, written out: as a public function they would have to ask that both readings lie below the size.
     fn advance(&self, from: u64, to: u64) -> u64 {
         if from > self.last || to > self.last {
             0

@@ -1,14 +1,12 @@
 // A disc that shows codes. A maker's table says at how many Wh of the round each code stands. Meters of one make
 // share the table, so a disc borrows it.
-ghost use Rattle.std.specs.Prelude.{◌≡◌, false, is_some, Some, None, MatchResult};
+ghost use Rattle.std.specs.Prelude.{◌≡◌, false, is_some, Some, None, MatchResult, nat_le, position};
 ghost use Rattle.fitting.specs.Disc.{disc_fault, disc_meaning, disc_lawful};
 
 use crate::disc_fault::DiscFault;
 use registers::dial::one_number;
 use registers::fault::RegisterFault;
-use registers::register::Register;
-
-const MOST: u64 = 1_000_000_000_000_000;
+use registers::register::{MOST_ENERGY, Register};
 
 #[derive(Clone, Copy)]
 pub struct CodeDisc<'a> {
@@ -17,15 +15,22 @@ pub struct CodeDisc<'a> {
     ghost sound: { is_some (disc_fault round marks.now) ≡ false },
 }
 
+// The code of the first mark that is not on the round.
+fn first_off_round(round: u64, marks: &[u64]) -> Option<usize>
+    ensures { result ≡ position (λ mark. nat_le round mark) marks.now }
+{
+    marks.iter().position(|mark| *mark >= round)
+}
+
 impl<'a> CodeDisc<'a> {
     // Whether a round and marks make a disc.
     pub fn check(round: u64, marks: &[u64]) -> Result<(), DiscFault>
         ensures { MatchResult result (λ _. disc_fault round marks.now ≡ None) (λ fault. disc_fault round marks.now ≡ Some fault) }
     {
-        if !(1..=MOST).contains(&round) {
+        if !(1..=MOST_ENERGY).contains(&round) {
             return Err(DiscFault::Round);
         }
-        match marks.iter().position(|mark| *mark >= round) {
+        match first_off_round(round, marks) {
             Some(code) => Err(DiscFault::Mark { code }),
             None => Ok(()),
         }
@@ -52,7 +57,7 @@ impl<'a> Register for CodeDisc<'a> {
         1
     }
 
-    // `as` here and below, since std has no `From` between usize and u64
+    // `as` here and below: std has no `From` between usize and u64, and `try_from` would have to be unwrapped.
     fn take(&self, numbers: &[u64]) -> Result<u64, RegisterFault> {
         one_number(numbers, self.marks.len() as u64)
     }
@@ -72,6 +77,8 @@ impl<'a> Register for CodeDisc<'a> {
         }
         let here = self.marks[from as usize];
         let there = self.marks[to as usize];
+        // A dial's steps, written out: as a public function they would have to ask that both readings lie below the
+        // size.
         if there < here {
             there + self.round - here
         } else {

@@ -1,5 +1,5 @@
 // A panel of sealed dials, each of which can only show 0. It has many dials, and tells no energy.
-ghost use Rattle.std.specs.Prelude.{◌≡◌, ◌≤◌, is_some, IfSome};
+ghost use Rattle.std.specs.Prelude.{◌≡◌, ◌==◌, ◌≤◌, is_some, IfSome, not, position};
 ghost use Rattle.registers.specs.Dials.{within};
 ghost use Rattle.registers.specs.Faults.{told};
 ghost use Rattle.fitting.specs.Panel.{all_zero, panel_meaning, panel_lawful};
@@ -28,11 +28,18 @@ impl SealedPanel {
     }
 }
 
-// The reading 0, or the first dial that does not show 0.
+// The first dial that does not show 0.
+fn first_number(numbers: &[u64]) -> Option<usize>
+    ensures { result ≡ position (λ number. not (number == 0)) numbers.now }
+{
+    numbers.iter().position(|number| *number != 0)
+}
+
+// The reading 0, or the fault of the first dial that does not show 0.
 fn take_zeros(numbers: &[u64]) -> Result<u64, RegisterFault>
     ensures { result ≡ told (all_zero numbers.now) }
 {
-    match numbers.iter().position(|number| *number != 0) {
+    match first_number(numbers) {
         Some(dial) => Err(RegisterFault::NumberTooLarge { dial }),
         None => Ok(0),
     }

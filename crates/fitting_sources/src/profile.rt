@@ -1,10 +1,10 @@
 // A profile: one list of weights for every category and day. Several accounts share the list, so a profile borrows it.
-ghost use Rattle.std.specs.Prelude.{◌≡◌, ◌^◌, ◌<◌, false, is_some, Some, None, MatchResult};
+ghost use Rattle.std.specs.Prelude.{◌≡◌, ◌^◌, ◌<◌, false, is_some, Some, None, MatchResult, nat_lt, position};
 ghost use Rattle.fitting_sources.specs.Profile.{profile_fault, profile_meaning, profile_lawful};
 
 use crate::profile_fault::ProfileFault;
-use load_shapes::day::CategoryDay;
-use load_shapes::source::Source;
+use load_shapes::day::{CategoryDay, may_have_periods};
+use load_shapes::source::{MOST_WEIGHT, Source};
 
 #[derive(Clone, Copy)]
 pub struct Profile<'a> {
@@ -14,15 +14,22 @@ pub struct Profile<'a> {
     ghost sound: { is_some (profile_fault weights.now) ≡ false },
 }
 
+// The period of the first weight that is too large.
+fn find_heavy(weights: &[u16]) -> Option<usize>
+    ensures { result ≡ position (λ weight. nat_lt 10000 weight) weights.now }
+{
+    weights.iter().position(|weight| *weight > MOST_WEIGHT)
+}
+
 impl<'a> Profile<'a> {
     // Whether weights make a profile.
     pub fn check(weights: &[u16]) -> Result<(), ProfileFault>
         ensures { MatchResult result (λ _. profile_fault weights.now ≡ None) (λ fault. profile_fault weights.now ≡ Some fault) }
     {
-        if weights.len() != 48 && weights.len() != 96 {
+        if !may_have_periods(weights.len()) {
             return Err(ProfileFault::Periods);
         }
-        match weights.iter().position(|weight| *weight > 10_000) {
+        match find_heavy(weights) {
             Some(period) => Err(ProfileFault::Weight { period }),
             None => Ok(()),
         }

@@ -3,7 +3,7 @@ ghost use Rattle.std.specs.Prelude.{◌≡◌, ◌≤◌, ◌&&◌, is_some, IfS
 ghost use Rattle.fitting_sources.specs.TwoRate.{rate, two_rate_meaning, two_rate_lawful};
 
 use load_shapes::day::CategoryDay;
-use load_shapes::source::Source;
+use load_shapes::source::{MOST_WEIGHT, Source};
 
 // Neither `Drop` nor `Copy`: a source need be neither.
 pub struct TwoRate {
@@ -19,7 +19,7 @@ impl TwoRate {
         ensures test { is_some result ≡ (nat_le night 10000 && nat_le day 10000) }
         ensures made { IfSome result (λ s. (s.night ≡ night) × (s.day ≡ day)) }
     {
-        if night <= 10_000 && day <= 10_000 {
+        if night <= MOST_WEIGHT && day <= MOST_WEIGHT {
             Some(TwoRate { night, day })
         } else {
             None

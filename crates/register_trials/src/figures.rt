@@ -8,6 +8,8 @@ use registers::register::Register;
 use registers::remote::RemoteDial;
 use std::io;
 
+// Each figure stands whole, so that a reader can follow it; `over_zero` and `straight` differ in their numbers alone.
+
 // Five digits and a weight of 1,000 Wh, from 99,990 over 0 to 15.
 fn over_zero() -> Result<u64, RegisterFault>
     ensures { result ≡ Ok 25000 }

@@ -4,15 +4,20 @@ use fitting::panel::SealedPanel;
 use registers::dial::Dial;
 use registers::fault::RegisterFault;
 use registers::pair::Pair;
-use registers::register::Register;
+use registers::register::{Extent, Register};
 use std::io;
+
+// Why there is no panel.
+const NO_PANEL: &str = "a panel has 1 to 64 dials";
+
+// Why there is no counter.
+const NO_COUNTER: &str = "a counter ends at 10^15 or before";
 
 // What the check says of two registers, and what they are as one.
 #[derive(Clone, Copy)]
 struct Trial {
     checked: Result<(), RegisterFault>,
-    dials: usize,
-    full_scale: u64,
+    extent: Extent,
 }
 
 fn try_pair<A: Register, B: Register>(first: A, second: B) -> (Trial, A, B) {
@@ -20,8 +25,7 @@ fn try_pair<A: Register, B: Register>(first: A, second: B) -> (Trial, A, B) {
     let pair = Pair::new(first, second);
     let trial = Trial {
         checked,
-        dials: pair.dials(),
-        full_scale: pair.full_scale(),
+        extent: pair.extent(),
     };
     let (first, second) = pair.into_parts();
     (trial, first, second)
@@ -53,28 +57,17 @@ fn try_panels(dials: [usize; 4]) -> Option<Trial> {
     Some(trial)
 }
 
-fn print_trial(rt: &impl Print, name: &str, trial: Trial) -> io::Result<()> {
-    let dials = trial.dials;
-    let full_scale = trial.full_scale;
-    match trial.checked {
+// What a trial came to, and where there was none, why.
+fn print_trial(rt: &impl Print, name: &str, trial: Option<Trial>, none: &str) -> io::Result<()> {
+    let Some(Trial { checked, extent }) = trial else {
+        return println!(rt; "  {name}: {none}");
+    };
+    let Extent { dials, full_scale } = extent;
+    match checked {
         Ok(()) => println!(rt; "  {name}: dials {dials}, full scale {full_scale} Wh"),
         Err(fault) => {
             println!(rt; "  {name}: {fault}; made, dials {dials}, full scale {full_scale} Wh")
         }
-    }
-}
-
-fn print_panels(rt: &impl Print, name: &str, dials: [usize; 4]) -> io::Result<()> {
-    match try_panels(dials) {
-        Some(trial) => print_trial(rt, name, trial),
-        None => println!(rt; "  {name}: a panel has 1 to 64 dials"),
-    }
-}
-
-fn print_counters(rt: &impl Print, name: &str, last: u64, other: u64) -> io::Result<()> {
-    match try_counters(last, other) {
-        Some(trial) => print_trial(rt, name, trial),
-        None => println!(rt; "  {name}: a counter ends at 10^15 or before"),
     }
 }
 
@@ -103,16 +96,20 @@ fn print_beyond(rt: &impl Print, numbers: &[u64]) -> io::Result<()> {
     match try_beyond(numbers) {
         Some(Err(fault)) => println!(rt; "  beyond the limits, {numbers:?}: {fault}"),
         Some(Ok(_)) => println!(rt; "  beyond the limits, {numbers:?}: taken"),
-        None => println!(rt; "  a panel has 1 to 64 dials"),
+        None => println!(rt; "  {NO_PANEL}"),
     }
 }
 
 pub fn print_all(rt: &impl Print) -> io::Result<()> {
-    print_panels(rt, "64 dials in four panels", [16, 16, 16, 16])?;
-    print_panels(rt, "65 dials in four panels", [16, 16, 16, 17])?;
+    let trial = try_panels([16, 16, 16, 16]);
+    print_trial(rt, "64 dials in four panels", trial, NO_PANEL)?;
+    let trial = try_panels([16, 16, 16, 17]);
+    print_trial(rt, "65 dials in four panels", trial, NO_PANEL)?;
     let half = 500_000_000_000_000;
-    print_counters(rt, "10^15 Wh in two counters", half, half)?;
-    print_counters(rt, "1 Wh more", half, half + 1)?;
+    let trial = try_counters(half, half);
+    print_trial(rt, "10^15 Wh in two counters", trial, NO_COUNTER)?;
+    let trial = try_counters(half, half + 1);
+    print_trial(rt, "1 Wh more", trial, NO_COUNTER)?;
     print_numbers(rt, &[1, 2, 3])?;
     print_numbers(rt, &[1, 2])?;
     print_numbers(rt, &[1, 2, 3, 4])?;

@@ -5,9 +5,12 @@ use load_shapes::even::EvenSource;
 use load_shapes::source::Source;
 use std::io;
 
-// A category, a day, and a period of the day.
+// A category's day, and a period of that day.
 #[derive(Clone, Copy)]
-pub struct Asked(pub usize, pub usize, pub usize);
+pub struct Asked {
+    pub at: CategoryDay,
+    pub period: usize,
+}
 
 fn print_number(rt: &impl Print, name: &str, number: Option<u16>) -> io::Result<()> {
     match number {
@@ -25,8 +28,8 @@ fn sum_of_day(source: &impl Source, at: CategoryDay) -> Option<u64> {
 // What a source says of each period that is asked for.
 pub fn print_answers(rt: &impl Print, source: &impl Source, asked: &[Asked]) -> io::Result<()> {
     for question in asked {
-        let Asked(category, day, period) = *question;
-        let at = CategoryDay { category, day };
+        let Asked { at, period } = *question;
+        let CategoryDay { category, day } = at;
         print!(rt; "  category {category}, day {day}, period {period}: ")?;
         print_number(rt, "count", source.count(at))?;
         print!(rt; ", ")?;
@@ -39,12 +42,42 @@ pub fn print_answers(rt: &impl Print, source: &impl Source, asked: &[Asked]) -> 
     Ok(())
 }
 
+// The last category and day that a source may have.
+pub const LAST_DAY: CategoryDay = CategoryDay {
+    category: 63,
+    day: 399,
+};
+
 const EDGES: [Asked; 5] = [
-    Asked(0, 0, 0),
-    Asked(63, 399, 47),
-    Asked(63, 399, 48),
-    Asked(64, 399, 47),
-    Asked(63, 400, 47),
+    Asked {
+        at: CategoryDay {
+            category: 0,
+            day: 0,
+        },
+        period: 0,
+    },
+    Asked {
+        at: LAST_DAY,
+        period: 47,
+    },
+    Asked {
+        at: LAST_DAY,
+        period: 48,
+    },
+    Asked {
+        at: CategoryDay {
+            category: 64,
+            day: 399,
+        },
+        period: 47,
+    },
+    Asked {
+        at: CategoryDay {
+            category: 63,
+            day: 400,
+        },
+        period: 47,
+    },
 ];
 
 pub fn print_even(rt: &impl Print) -> io::Result<()> {

@@ -1,8 +1,9 @@
 // Layers over a table, over the even source, and over sources of one's own.
-use crate::answers::{Asked, print_answers};
+use crate::answers::{Asked, LAST_DAY, print_answers};
 use crate::tables;
 use fitting_sources::profile::Profile;
 use fitting_sources::two_rate::TwoRate;
+use load_shapes::day::CategoryDay;
 use load_shapes::de_minimis::DeMinimis;
 use load_shapes::even::EvenSource;
 use load_shapes::source::Source;
@@ -12,10 +13,31 @@ use std::io;
 
 // Days with an entry in the table, and one without.
 const DAYS: [Asked; 4] = [
-    Asked(3, 7, 1),
-    Asked(3, 8, 1),
-    Asked(3, 9, 47),
-    Asked(63, 399, 47),
+    Asked {
+        at: CategoryDay {
+            category: 3,
+            day: 7,
+        },
+        period: 1,
+    },
+    Asked {
+        at: CategoryDay {
+            category: 3,
+            day: 8,
+        },
+        period: 1,
+    },
+    Asked {
+        at: CategoryDay {
+            category: 3,
+            day: 9,
+        },
+        period: 47,
+    },
+    Asked {
+        at: LAST_DAY,
+        period: 47,
+    },
 ];
 
 // One source and, where it has no shape, another, with what the check says of the two.
@@ -88,12 +110,11 @@ pub fn print(rt: &(impl Print + AllocGlobal)) -> io::Result<()> {
     print_profile(rt, &weights)?;
     weights[51] = 10_001;
     print_profile(rt, &weights)?;
-    match TwoRate::new(10_000, 10_001) {
-        Some(source) => print_given_back(rt, source)?,
-        None => println!(rt; "two rates: a weight above 10,000")?,
+    for (night, day) in [(10_000, 10_001), (2, 9)] {
+        match TwoRate::new(night, day) {
+            Some(source) => print_given_back(rt, source)?,
+            None => println!(rt; "two rates: a weight above 10,000")?,
+        }
     }
-    match TwoRate::new(2, 9) {
-        Some(source) => print_given_back(rt, source),
-        None => println!(rt; "two rates: a weight above 10,000"),
-    }
+    Ok(())
 }

@@ -1,7 +1,7 @@
 // Tables at the edge of each refusal.
+use crate::answers::LAST_DAY;
 use crate::tables;
 use crate::tables::Patch;
-use load_shapes::day::CategoryDay;
 use load_shapes::source::Source;
 use shape_table::table::ShapeTable;
 use std::io;
@@ -193,19 +193,13 @@ fn attempt(rt: &impl Print, name: &str, bytes: &[u8]) -> io::Result<()> {
 // Parts of the table, from its first byte on.
 fn print_parts(rt: &impl Print, bytes: &[u8]) -> io::Result<()> {
     for len in [0, 15, 16, 331] {
-        if len <= bytes.len() {
+        if let Some(part) = bytes.get(..len) {
             print!(rt; "{len} bytes of ")?;
-            attempt(rt, "it", &bytes[..len])?;
+            attempt(rt, "it", part)?;
         }
     }
     Ok(())
 }
-
-// The last category and day that a table may have.
-const LAST_DAY: CategoryDay = CategoryDay {
-    category: 63,
-    day: 399,
-};
 
 // What a table in its place says of a day, before and after a refused opening.
 fn print_refused<'a>(rt: &impl Print, good: &'a [u8], bad: &'a [u8]) -> io::Result<()> {

@@ -31,15 +31,18 @@ const ENTRIES: [Entry; 3] = [
 ];
 
 // Where the rows start: four bytes after the index ends.
-const ROW_OFFSET: u16 = 44;
+const ROW_OFFSET: u32 = 44;
 
 fn push_u16(bytes: &mut Vec<u8>, number: u16) -> Result<(), AllocError> {
     bytes.extend_from_slice(&number.to_le_bytes())
 }
 
 fn push_header(bytes: &mut Vec<u8>) -> Result<(), AllocError> {
-    for number in [48, 3, 3, 0, 16, 0, ROW_OFFSET, 0] {
+    for number in [48, 3, 3, 0] {
         push_u16(bytes, number)?;
+    }
+    for offset in [16, ROW_OFFSET] {
+        bytes.extend_from_slice(&offset.to_le_bytes())?;
     }
     Ok(())
 }
@@ -85,8 +88,8 @@ pub fn patched(heap: Global, bytes: &[u8], patches: &[Patch]) -> Result<Vec<u8>,
     let mut copy = bytes.to_vec(heap)?;
     for patch in patches {
         let Patch(at, byte) = *patch;
-        if at < copy.len() {
-            copy[at] = byte;
+        if let Some(place) = copy.get_mut(at) {
+            *place = byte;
         }
     }
     Ok(copy)

@@ -18,10 +18,12 @@ const ROW_OFFSET: u32 = 16 + 8 * 64 * 400;
 // 96 periods, and an entry for each of 64 categories and 400 days, which share a row.
 fn build(heap: Global) -> Result<Vec<u8>, AllocError> {
     let mut bytes = Vec::new(heap);
-    for number in [96u16, 64 * 400, 1, 0, 16, 0] {
+    for number in [96u16, 64 * 400, 1, 0] {
         bytes.extend_from_slice(&number.to_le_bytes())?;
     }
-    bytes.extend_from_slice(&ROW_OFFSET.to_le_bytes())?;
+    for offset in [16, ROW_OFFSET] {
+        bytes.extend_from_slice(&offset.to_le_bytes())?;
+    }
     for category in 0..64 {
         for day in 0..400 {
             for number in [category, day, 9, 0u16] {
