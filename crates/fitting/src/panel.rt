@@ -29,7 +29,7 @@ impl SealedPanel {
 }
 
 // The first dial that does not show 0.
-fn first_number(numbers: &[u64]) -> Option<usize>
+fn first_not_zero(numbers: &[u64]) -> Option<usize>
     ensures { result ≡ position (λ number. not (number == 0)) numbers.now }
 {
     numbers.iter().position(|number| *number != 0)
@@ -39,7 +39,7 @@ fn first_number(numbers: &[u64]) -> Option<usize>
 fn take_zeros(numbers: &[u64]) -> Result<u64, RegisterFault>
     ensures { result ≡ told (all_zero numbers.now) }
 {
-    match first_number(numbers) {
+    match first_not_zero(numbers) {
         Some(dial) => Err(RegisterFault::NumberTooLarge { dial }),
         None => Ok(0),
     }

@@ -26,8 +26,8 @@ row_light bytes row weights e =
     ∙ list_all-map (λ w. nat_le w 10000) (row_weight bytes row) (range_with_len 0 (header_of bytes).periods)
 
 -- A row that was found has at most 96 weights.
-pub row_most : (bytes : List ℕ) → Bytes bytes → is_some (table_fault bytes) ≡ false → (at : CategoryDay) (found : ShapeInPlace) → Some (shape_in found) ≡ (table_meaning bytes).shape at → length found.row.now ≤ 96
-row_most bytes b h at found e =
+pub row_within_day : (bytes : List ℕ) → Bytes bytes → is_some (table_fault bytes) ≡ false → (at : CategoryDay) (found : ShapeInPlace) → Some (shape_in found) ≡ (table_meaning bytes).shape at → length found.row.now ≤ 96
+row_within_day bytes b h at found e =
     let laws = table_lawful bytes b h in
     let each = (laws.well_formed at (shape_in found) (sym e)).one_weight_each in
     let size = length-map found.row.now (λ weight. u16_at weight 0) in

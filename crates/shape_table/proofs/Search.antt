@@ -1,5 +1,5 @@
 -- The entries of a sound table rise, so that a search by halves finds the one that is sought, and each entry is told.
-use Rattle.std.proofs.Common.{◌≡◌, ℕ, zero, suc, ◌-◌, ◌<◌, ◌≤◌, Bool, true, false, ◌&&◌, eqb, List, [], map, length, get_or, is_some, Some, None, Ok, Err, Result, Ordering, Less, Equal, Greater, sym, ap, ◌∙◌, ⊎_elim, arith}
+use Rattle.std.proofs.Common.{◌≡◌, ℕ, zero, suc, ◌-◌, ◌<◌, ◌≤◌, Bool, true, false, eqb, List, [], map, length, get_or, is_some, Some, None, Ok, Err, Result, Ordering, Less, Equal, Greater, sym, ap, ◌∙◌, ⊎_elim, arith}
 use Rattle.std.specs.Ordering.{nat_cmp, ordering_then, ordering_index}
 use Rattle.std.specs.List.Sorted.{IsBinarySearchResult, IsSearchInRange, IsNonDecreasingBy}
 use Rattle.std.specs.Result.{result_ok}
@@ -9,7 +9,7 @@ use Rattle.std.proofs.lemmas.Bool.Decides.{nat_tests}
 use Rattle.load_shapes.specs.declared.day.CategoryDay.{CategoryDay}
 use Rattle.shape_table.specs.declared.fields.IndexEntry.{IndexEntry}
 use Rattle.shape_table.specs.FirstLaws.{is_first_that, first_that_none}
-use Rattle.shape_table.specs.Layout.{comes_before, of_day, header_of, entry_in, entry_at, index, entry_right, entry_in_range, entry_above_last, entry_of, entry_shape, table_fault}
+use Rattle.shape_table.specs.Layout.{same_day, comes_before, of_day, header_of, entry_in, entry_at, index, entry_right, entry_in_range, entry_above_last, entry_of, entry_shape, table_fault}
 use Rattle.shape_table.specs.TableLaws.{Sound, sound}
 use Rattle.shape_table.specs.Told.{TellsItsEntries}
 use Rattle.shape_table.proofs.Read.{entry_read}
@@ -21,25 +21,23 @@ order a b = ordering_then (nat_cmp a.category b.category) (nat_cmp a.day b.day)
 before_trans : (a b c : CategoryDay) → comes_before a b ≡ true → comes_before b c ≡ true → comes_before a c ≡ true
 before_trans a b c h k = grind (arith, nat_tests)
 
-before_other : (a b : CategoryDay) → comes_before a b ≡ true → (eqb a.category b.category && eqb a.day b.day) ≡ false
-before_other a b h = grind (arith, nat_tests)
-
-equal_same : (a b : CategoryDay) → order a b ≡ Equal → (eqb a.category b.category && eqb a.day b.day) ≡ true
+-- Whether two days are the same, by how they compare.
+equal_same : (a b : CategoryDay) → order a b ≡ Equal → same_day a b ≡ true
 equal_same a b e = grind (arith, nat_tests)
 
-less_other : (a b : CategoryDay) → order a b ≡ Less → (eqb a.category b.category && eqb a.day b.day) ≡ false
+less_other : (a b : CategoryDay) → order a b ≡ Less → same_day a b ≡ false
 less_other a b e = grind (arith, nat_tests)
 
-greater_other : (a b : CategoryDay) → order a b ≡ Greater → (eqb a.category b.category && eqb a.day b.day) ≡ false
+greater_other : (a b : CategoryDay) → order a b ≡ Greater → same_day a b ≡ false
 greater_other a b e = grind (arith, nat_tests)
 
-same_day : (a : CategoryDay) → (eqb a.category a.category && eqb a.day a.day) ≡ true
-same_day a = grind (arith, nat_tests)
+own_day : (a : CategoryDay) → same_day a a ≡ true
+own_day a = grind (arith, nat_tests)
 
 abbrev at_of : ℕ → ℕ → CategoryDay
 at_of category day = record { category = category; day = day }
 
-other_day : (a b : CategoryDay) → (a ≡ b → ⊥) → (eqb a.category b.category && eqb a.day b.day) ≡ false
+other_day : (a b : CategoryDay) → (a ≡ b → ⊥) → same_day a b ≡ false
 other_day a b h =
     ⊎_elim
     (λ t.
@@ -49,9 +47,9 @@ other_day a b h =
     let same : a ≡ b = ap (λ (x : ℕ). at_of x a.day) c ∙ ap (at_of b.category) d in
     absurd (h same))
     (λ f. f)
-    (cases_Bool (eqb a.category b.category && eqb a.day b.day))
+    (cases_Bool (same_day a b))
 
-only_one : (a b c : CategoryDay) → comes_before a b ≡ true → (eqb b.category c.category && eqb b.day c.day) ≡ true → (eqb a.category c.category && eqb a.day c.day) ≡ false
+only_one : (a b c : CategoryDay) → comes_before a b ≡ true → same_day b c ≡ true → same_day a c ≡ false
 only_one a b c h e = grind (arith, nat_tests)
 
 order_rises : (a b c : CategoryDay) → comes_before a b ≡ true → ordering_index (order a c) ≤ ordering_index (order b c)
@@ -121,7 +119,7 @@ module _ (bytes : List ℕ) (s : Sound bytes) (at : CategoryDay) (entries : List
 
 -- No two entries are of one category's day, so each is the entry of its own.
 each_its_own : (bytes : List ℕ) → Sound bytes → (k : ℕ) → k < (header_of bytes).entries → entry_of bytes (entry_at bytes k).at ≡ Some k
-each_its_own bs s k l = found_at bs s (entry_at bs k).at k l (same_day (entry_at bs k).at)
+each_its_own bs s k l = found_at bs s (entry_at bs k).at k l (own_day (entry_at bs k).at)
 
 no_entry : (bytes : List ℕ) (at : CategoryDay) → ((k : ℕ) → k < (header_of bytes).entries → (entry_at bytes k).at ≡ at → ⊥) → entry_of bytes at ≡ None
 unfolding entry_of

@@ -42,11 +42,11 @@ header_of bytes = record {
 -- An entry has 8 bytes, here those from an offset on: the category and the day that it is for, between the two a byte
 -- that is always 0, its data count, and its row. Rows count from 0.
 abbrev pub entry_in : List ℕ → ℕ → IndexEntry
-entry_in bytes at = record {
-  at = record { category = byte_at bytes at; day = u16_at bytes (at + 2) };
-  zero = byte_at bytes (at + 1);
-  count = u16_at bytes (at + 4);
-  row = u16_at bytes (at + 6);
+entry_in bytes offset = record {
+  at = record { category = byte_at bytes offset; day = u16_at bytes (offset + 2) };
+  zero = byte_at bytes (offset + 1);
+  count = u16_at bytes (offset + 4);
+  row = u16_at bytes (offset + 6);
 }
 
 -- An entry of the index. Entries count from 0.
@@ -80,6 +80,10 @@ pub record Placed (bytes : List ℕ) : Type 0 where
 -- An entry is of a category below 64 and a day below 400, has its zero, and names one of so many rows.
 abbrev pub entry_in_range : ℕ → IndexEntry → Bool
 entry_in_range rows entry = is_within_bounds entry.at && (entry.zero == 0 && nat_lt entry.row rows)
+
+-- Whether two are the same category's day.
+abbrev pub same_day : CategoryDay → CategoryDay → Bool
+same_day at other = at.category == other.category && at.day == other.day
 
 -- Whether one category's day comes before another: by category, and then by day.
 abbrev pub comes_before : CategoryDay → CategoryDay → Bool
@@ -130,7 +134,7 @@ table_fault bytes = option_or (areas_fault bytes) (contents_fault bytes)
 
 -- Whether an entry is that of a category's day.
 abbrev pub of_day : List ℕ → CategoryDay → ℕ → Bool
-of_day bytes at entry = (entry_at bytes entry).at.category == at.category && (entry_at bytes entry).at.day == at.day
+of_day bytes at entry = same_day (entry_at bytes entry).at at
 
 -- The entry of a category's day, if there is one.
 unfoldable pub entry_of : List ℕ → CategoryDay → Option ℕ

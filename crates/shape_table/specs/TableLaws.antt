@@ -1,5 +1,5 @@
 -- Bytes without a fault show the laws of a source.
-use Rattle.std.specs.Prelude.{◌≡◌, ℕ, ◌+◌, ◌^◌, ◌<◌, ◌≤◌, true, false, not, ◌&&◌, ◌==◌, List, length, is_some, Some, None, Option, nat_le, refl}
+use Rattle.std.specs.Prelude.{◌≡◌, ℕ, ◌+◌, ◌^◌, ◌<◌, ◌≤◌, true, false, not, List, length, is_some, Some, None, Option, nat_le, refl}
 use Rattle.std.specs.Option.{option_map}
 use Rattle.std.proofs.Common.{arith}
 use Rattle.std.proofs.lemmas.Bool.{not-false, leb-true}
@@ -10,7 +10,7 @@ use Rattle.load_shapes.specs.EvenLaws.{either_periods}
 use Rattle.load_shapes.specs.Meaning.{Shape, WellFormed, Laws, is_within_bounds, may_have_periods}
 use Rattle.shape_table.specs.declared.fields.Header.{Header}
 use Rattle.shape_table.specs.FirstLaws.{none_that, first_that_none, first_that_is, each_below_is}
-use Rattle.shape_table.specs.Layout.{Bytes, u16_at, header_of, entry_at, areas_placed, Placed, entry_right, row_weight, row_right, first_wrong_entry, first_wrong_row, header_fault, areas_fault, table_fault, of_day, entry_of, entry_shape, table_meaning}
+use Rattle.shape_table.specs.Layout.{Bytes, u16_at, header_of, entry_at, areas_placed, Placed, entry_right, row_weight, row_right, first_wrong_entry, first_wrong_row, header_fault, areas_fault, table_fault, same_day, of_day, entry_of, entry_shape, table_meaning}
 
 -- What bytes without a fault show.
 pub record Sound (bytes : List ℕ) : Type 0 where
@@ -78,14 +78,15 @@ beyond_category at l = grind (arith, nat_tests)
 beyond_day : (at : CategoryDay) → 400 ≤ at.day → is_within_bounds at ≡ false
 beyond_day at l = grind (arith, nat_tests)
 
--- No entry is out of range.
-other_day : (own at : CategoryDay) → own.category < 64 → own.day < 400 → is_within_bounds at ≡ false → (own.category == at.category && own.day == at.day) ≡ false
-other_day own at c d h = grind (arith, nat_tests)
+-- A day within the bounds is none of those beyond them.
+other_beyond : (own at : CategoryDay) → own.category < 64 → own.day < 400 → is_within_bounds at ≡ false → same_day own at ≡ false
+other_beyond own at c d h = grind (arith, nat_tests)
 
+-- No entry is of a day beyond the bounds.
 none_beyond : (bytes : List ℕ) → Sound bytes → (at : CategoryDay) → is_within_bounds at ≡ false → entry_of bytes at ≡ None
 unfolding entry_of
 none_beyond bytes s at h =
-    first_that_none (of_day bytes at) (header_of bytes).entries (λ k l. let own = in_range bytes k (s.entries k l) in other_day (entry_at bytes k).at at own.category own.day h)
+    first_that_none (of_day bytes at) (header_of bytes).entries (λ k l. let own = in_range bytes k (s.entries k l) in other_beyond (entry_at bytes k).at at own.category own.day h)
 
 found_well_formed : (bytes : List ℕ) → Bytes bytes → Sound bytes → (place : Option ℕ) → ((entry : ℕ) → place ≡ Some entry → entry < (header_of bytes).entries)
     → (t : Shape) → option_map (entry_shape bytes) place ≡ Some t → WellFormed (header_of bytes).periods t

@@ -5,7 +5,7 @@ use Rattle.load_shapes.specs.Meaning.{count_of, weight_of}
 use Rattle.load_shapes.proofs.Asked.{asked_each}
 use Rattle.shape_table.specs.Layout.{u16_at, table_meaning}
 use Rattle.shape_table.proofs.Filled.{filled_none, filled_more, filled_all}
-use Rattle.shape_table.proofs.Read.{row_most}
+use Rattle.shape_table.proofs.Read.{row_within_day}
 use Rattle.shape_table.proofs.table.ShapeTableSource.shape.Goals as goal
 
 abbrev read : List ℕ → ℕ
@@ -18,7 +18,7 @@ pub loop-period-preserved : goal.loop-period-preserved
 loop-period-preserved c =
     let table = c.args.self.now in
     let found = c.in_ok-count.field-0 in
-    let most = row_most table.areas.bytes.now table.octets table.checked c.args.at found c.in_ok-count.ensures in
+    let most = row_within_day table.areas.bytes.now table.octets table.checked c.args.at found c.in_ok-count.ensures in
     filled_more (map read found.row.now) c.loop-period.period c.loop-period.weights c.weight_in.result (omega arith)
     (c.weight_in.ensures ∙ sym (get_or-map read found.row.now c.loop-period.period _ 0 c.loop-period-test.true)) c.loop-period.invariant
 
