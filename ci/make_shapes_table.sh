@@ -1,6 +1,6 @@
 #!/usr/bin/env bash
-# Writes the shape table that the program `month_shapes` reads, crates/month_shapes/data/shapes.table, to standard output. The table
-# has days of 48 periods and, for category 10, an entry for every seventh day. The third rests on little data.
+# Writes the shape table that the program `month` reads, crates/month/data/shapes.table, to standard output. The table has
+# days of 48 periods and, for category 10, an entry for every seventh day. The third rests on little data.
 set -eu
 
 # A number of 16 bits, the low byte first.

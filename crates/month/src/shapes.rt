@@ -54,14 +54,23 @@ fn print_layered(rt: &impl Print, table: ShapeTable, even: EvenSource) -> io::Re
     }
 }
 
-// The shapes in the bytes of a table.
-pub fn print(rt: &impl Print, bytes: &[u8]) -> io::Result<()> {
-    let mut table = ShapeTable::empty();
-    if let Err(fault) = table.open(bytes) {
-        return println!(rt; "no table: {fault}");
-    }
+fn print_table(rt: &impl Print, table: ShapeTable) -> io::Result<()> {
     match EvenSource::new(table.periods()) {
         Ok(even) => print_layered(rt, table, even),
         Err(fault) => println!(rt; "no even source: {fault}"),
     }
+}
+
+// The shapes in the bytes of a table.
+pub fn print(rt: &impl Print, bytes: &[u8]) -> io::Result<()> {
+    let mut table = ShapeTable::empty();
+    match table.open(bytes) {
+        Ok(()) => print_table(rt, table),
+        Err(fault) => println!(rt; "no table: {fault}"),
+    }
+}
+
+// The shapes of the built-in table, which has none, so that each day is even.
+pub fn print_built_in(rt: &impl Print) -> io::Result<()> {
+    print_table(rt, ShapeTable::empty())
 }
