@@ -40,6 +40,7 @@ impl<'a> Profile<'a> {
         requires { is_some (profile_fault weights.now) ≡ false }
         ensures count { result.count ≡ count }
         ensures weights { result.weights.now ≡ weights.now }
+        ensures meaning { ⟦<Profile<'a> as Source>⟧.meaning result ≡ profile_meaning count weights.now }
     {
         Profile { count, weights }
     }

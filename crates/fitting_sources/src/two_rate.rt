@@ -18,6 +18,7 @@ impl TwoRate {
     pub fn new(night: u16, day: u16) -> Option<TwoRate>
         ensures test { is_some result ≡ (nat_le night 10000 && nat_le day 10000) }
         ensures made { IfSome result (λ s. (s.night ≡ night) × (s.day ≡ day)) }
+        ensures meaning { IfSome result (λ s. ⟦<TwoRate as Source>⟧.meaning s ≡ two_rate_meaning night day) }
     {
         if night <= MOST_WEIGHT && day <= MOST_WEIGHT {
             Some(TwoRate { night, day })

@@ -17,7 +17,8 @@ impl<S: Source> DeMinimis<S> {
     pub fn new(source: S, threshold: u16) -> DeMinimis<S>
         ensures source { result.source ≡ source }
         ensures threshold { result.threshold ≡ threshold }
-        ensures meaning { de_minimis_meaning result.threshold (S.Source.meaning result.source) ≡ de_minimis_meaning threshold (S.Source.meaning source) }
+        ensures meaning { ⟦<DeMinimis<S> as Source>⟧.meaning result
+            ≡ de_minimis_meaning threshold (S.Source.meaning source) }
     {
         DeMinimis { source, threshold }
     }

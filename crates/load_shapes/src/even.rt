@@ -15,7 +15,7 @@ use crate::source::Source;
 #[derive(Clone, Copy)]
 pub struct EvenSource {
     periods: usize,
-    ghost halves: { may_have_periods periods ≡ true },
+    ghost allowed: { may_have_periods periods ≡ true },
 }
 
 impl EvenSource {
@@ -24,6 +24,7 @@ impl EvenSource {
         ensures fault { result_err result ≡ even_fault periods }
         ensures refusal { refusal listed result ≡ option_map listed (even_fault periods) }
         ensures made { IfOk result (λ s. s.periods ≡ periods) }
+        ensures meaning { IfOk result (λ s. ⟦<EvenSource as Source>⟧.meaning s ≡ even_meaning periods) }
     {
         if may_have_periods(periods) {
             Ok(EvenSource { periods })
@@ -36,7 +37,7 @@ impl EvenSource {
 impl Source for EvenSource {
     ghost meaning = { λ s. even_meaning s.periods };
 
-    ghost lawful = { λ s. even_lawful s.periods s.halves };
+    ghost lawful = { λ s. even_lawful s.periods s.allowed };
 
     fn periods(&self) -> usize {
         self.periods

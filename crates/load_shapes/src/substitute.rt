@@ -37,7 +37,8 @@ impl<S: Source, T: Source> Substitute<S, T> {
     pub fn new(first: S, second: T) -> Substitute<S, T>
         ensures first { result.first ≡ first }
         ensures second { result.second ≡ second }
-        ensures meaning { substitute_meaning (S.Source.meaning result.first) (T.Source.meaning result.second) ≡ substitute_meaning (S.Source.meaning first) (T.Source.meaning second) }
+        ensures meaning { ⟦<Substitute<S, T> as Source>⟧.meaning result
+            ≡ substitute_meaning (S.Source.meaning first) (T.Source.meaning second) }
     {
         Substitute { first, second }
     }

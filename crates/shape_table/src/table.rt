@@ -30,8 +30,8 @@ const EMPTY: [u8; 16] = [48, 0, 0, 0, 0, 0, 0, 0, 16, 0, 0, 0, 16, 0, 0, 0];
 impl<'a> ShapeTable<'a> {
     // The built-in table, which has no shape for any day.
     pub fn empty() -> ShapeTable<'a>
-        ensures periods { (table_meaning result.areas.bytes.now).periods ≡ 48 }
-        ensures shapes { (at : CategoryDay) → (table_meaning result.areas.bytes.now).shape at ≡ None }
+        ensures periods { (⟦<ShapeTable<'a> as Source>⟧.meaning result).periods ≡ 48 }
+        ensures shapes { (at : CategoryDay) → (⟦<ShapeTable<'a> as Source>⟧.meaning result).shape at ≡ None }
     {
         ShapeTable {
             areas: Areas {
@@ -46,7 +46,7 @@ impl<'a> ShapeTable<'a> {
     pub fn open(&mut self, bytes: &'a [u8]) -> Result<(), SourceFault>
         ensures fault { result_err result ≡ table_fault bytes.now }
         ensures refusal { refusal listed result ≡ option_map listed (table_fault bytes.now) }
-        ensures meaning { OnOk result (table_meaning self.new.areas.bytes.now ≡ table_meaning bytes.now) }
+        ensures meaning { OnOk result (⟦<ShapeTable<'a> as Source>⟧.meaning self.new ≡ table_meaning bytes.now) }
         ensures entries { OnOk result (TellsItsEntries bytes.now) }
         ensures place { MatchResult result (λ _. self.new.areas.bytes.now ≡ bytes.now) (λ _. self.new ≡ self.old) }
     {
