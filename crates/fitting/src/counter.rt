@@ -17,6 +17,7 @@ impl Counter {
     pub fn new(last: u64) -> Option<Counter>
         ensures test { is_some result ≡ nat_le last (10 ^ 15) }
         ensures made { IfSome result (λ counter. counter.last ≡ last) }
+        ensures meaning { IfSome result (λ counter. ⟦<Counter as Register>⟧.meaning counter ≡ counter_meaning last) }
     {
         if last <= MOST_ENERGY {
             Some(Counter { last })

@@ -41,6 +41,7 @@ impl<'a> CodeDisc<'a> {
         requires { is_some (disc_fault round marks.now) ≡ false }
         ensures round { result.round ≡ round }
         ensures marks { result.marks.now ≡ marks.now }
+        ensures meaning { ⟦<CodeDisc<'a> as Register>⟧.meaning result ≡ disc_meaning round marks.now }
     {
         CodeDisc { round, marks }
     }

@@ -19,6 +19,7 @@ impl SealedPanel {
     pub fn new(dials: usize) -> Option<SealedPanel>
         ensures test { is_some result ≡ within 1 64 dials }
         ensures made { IfSome result (λ panel. panel.dials ≡ dials) }
+        ensures meaning { IfSome result (λ panel. ⟦<SealedPanel as Register>⟧.meaning panel ≡ panel_meaning dials) }
     {
         if (1..=64).contains(&dials) {
             Some(SealedPanel { dials })

@@ -34,6 +34,7 @@ impl Dial {
     pub fn new(digits: u8, weight: u32) -> Result<Dial, RegisterFault>
         ensures refusal { refusal listed result ≡ dial_refusal digits weight }
         ensures made { IfOk result (λ d. (d.digits ≡ digits) × (d.weight ≡ weight)) }
+        ensures meaning { IfOk result (λ d. ⟦<Dial as Register>⟧.meaning d ≡ dial_meaning digits weight) }
     {
         if !(1..=8).contains(&digits) {
             return Err(RegisterFault::Digits);

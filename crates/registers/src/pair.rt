@@ -45,7 +45,8 @@ impl<A: Register, B: Register> Pair<A, B> {
     pub fn new(first: A, second: B) -> Pair<A, B>
         ensures first { result.first ≡ first }
         ensures second { result.second ≡ second }
-        ensures meaning { pair_meaning (A.Register.meaning result.first) (B.Register.meaning result.second) ≡ pair_meaning (A.Register.meaning first) (B.Register.meaning second) }
+        ensures meaning { ⟦<Pair<A, B> as Register>⟧.meaning result
+            ≡ pair_meaning (A.Register.meaning first) (B.Register.meaning second) }
     {
         Pair { first, second }
     }

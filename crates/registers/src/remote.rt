@@ -24,6 +24,7 @@ impl RemoteDial {
     pub fn new(digits: u8, weight: u32) -> Result<RemoteDial, RegisterFault>
         ensures refusal { refusal listed result ≡ dial_refusal digits weight }
         ensures made { IfOk result (λ d. (d.dial.digits ≡ digits) × (d.dial.weight ≡ weight)) }
+        ensures meaning { IfOk result (λ d. ⟦<RemoteDial as Register>⟧.meaning d ≡ remote_meaning digits weight) }
     {
         Ok(RemoteDial {
             dial: Dial::new(digits, weight)?,

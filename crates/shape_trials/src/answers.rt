@@ -48,7 +48,8 @@ pub const LAST_DAY: CategoryDay = CategoryDay {
     day: 399,
 };
 
-const EDGES: [Asked; 5] = [
+// The first day, and the last, and what lies beyond the periods of 48, the categories and the days.
+pub const EDGES: [Asked; 5] = [
     Asked {
         at: CategoryDay {
             category: 0,

@@ -1,5 +1,5 @@
 // Layers over a table, over the even source, and over sources of one's own.
-use crate::answers::{Asked, LAST_DAY, print_answers};
+use crate::answers::{Asked, EDGES, LAST_DAY, print_answers};
 use crate::tables;
 use fitting_sources::profile::Profile;
 use fitting_sources::two_rate::TwoRate;
@@ -57,6 +57,8 @@ fn print_substitute<S: Source + Drop, T: Source + Drop>(
 fn print_over_table(rt: &impl Print, table: ShapeTable) -> io::Result<()> {
     println!(rt; "table")?;
     print_answers(rt, &table, &DAYS)?;
+    println!(rt; "table at its edges")?;
+    print_answers(rt, &table, &EDGES)?;
     for threshold in [5, 6] {
         println!(rt; "de-minimis layer, threshold {threshold}")?;
         print_answers(rt, &DeMinimis::new(table, threshold), &DAYS)?;
@@ -67,7 +69,10 @@ fn print_over_table(rt: &impl Print, table: ShapeTable) -> io::Result<()> {
             Err(fault) => println!(rt; "{fault}")?,
         }
     }
-    Ok(())
+    match EvenSource::new(96) {
+        Ok(even) => print_substitute(rt, even, table),
+        Err(fault) => println!(rt; "{fault}"),
+    }
 }
 
 // A profile borrows its weights.

@@ -12,7 +12,7 @@ struct Trial {
     patches: &'static [Patch],
 }
 
-const TRIALS: [Trial; 33] = [
+const TRIALS: [Trial; 37] = [
     Trial {
         name: "as built",
         patches: &[],
@@ -24,6 +24,18 @@ const TRIALS: [Trial; 33] = [
     Trial {
         name: "47 periods",
         patches: &[Patch(0, 47)],
+    },
+    Trial {
+        name: "49 periods",
+        patches: &[Patch(0, 49)],
+    },
+    Trial {
+        name: "95 periods",
+        patches: &[Patch(0, 95)],
+    },
+    Trial {
+        name: "97 periods",
+        patches: &[Patch(0, 97)],
     },
     Trial {
         name: "96 periods in bytes for 48",
@@ -149,6 +161,10 @@ const TRIALS: [Trial; 33] = [
         patches: &[Patch(32, 2)],
     },
     Trial {
+        name: "entry 2 of a later category and an earlier day",
+        patches: &[Patch(34, 5), Patch(35, 0)],
+    },
+    Trial {
         name: "entry 1 of an earlier day",
         patches: &[Patch(26, 6)],
     },
@@ -225,5 +241,8 @@ pub fn print(rt: &(impl Print + AllocGlobal)) -> io::Result<()> {
     }
     print_parts(rt, &base)?;
     let bad = tables::patched(rt.alloc(), &base, &[Patch(0, 47)])?;
+    if let Some(part) = bad.get(..15) {
+        attempt(rt, "15 bytes, 47 periods", part)?;
+    }
     print_refused(rt, &base, &bad)
 }
