@@ -26,7 +26,7 @@ pub record WellFormed (periods : ℕ) (s : Shape) : Type 0 where
   -- each is at most 10,000
   pub weight_most : (period : ℕ) → slice_index s.weights period ≤ 10000
 
--- The laws of a source. Whatever is proved of accounts is proved of every source that shows these.
+-- The laws of a source. Whatever is built on sources is proved for every source that shows these.
 pub record Laws (m : Meaning) : Type 0 where
   -- a day has 48 or 96 periods
   pub day_periods : (m.periods ≡ 48) ⊎ (m.periods ≡ 96)

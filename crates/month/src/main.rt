@@ -1,6 +1,6 @@
 // A month of one metering system: the energy between the numbers on its dials, and the load shapes by which a day's energy
-// is spread over its periods. The shapes are those of the table in the file that is named after the program, and without a
-// file those of the built-in table.
+// is spread over its periods. The shapes are those of the table in the file whose path is the program's argument, and without
+// an argument those of the built-in table.
 #![tactic(auto)]
 
 mod meter;

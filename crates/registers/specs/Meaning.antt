@@ -21,7 +21,7 @@ pub record Meaning (K : Type 0) : Type 0 where
   -- the energy from one kept reading to another
   pub advance : K → K → ℕ
 
--- The laws of a register. Whatever is proved of accounts is proved of every register that shows these.
+-- The laws of a register. Whatever is built on registers is proved for every register that shows these.
 pub record Laws {K : Type 0} (m : Meaning K) : Type 0 where
   -- there are 1 to 64 dials
   pub some_dial : 1 ≤ m.dials
