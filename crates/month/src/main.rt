@@ -1,6 +1,6 @@
-// A month of one metering system: the energy between the numbers on its dials, and the load shapes by which a day's energy
-// is spread over its periods. The shapes are those of the table in the file whose path is the program's argument, and without
-// an argument those of the built-in table.
+// A month of one metering system: the energy between the numbers on its dials, and the load shapes by which a day's
+// energy is spread over its periods. The program's argument is the path of a shape table's file; without one the built-in
+// table serves.
 #![tactic(auto)]
 
 mod meter;
